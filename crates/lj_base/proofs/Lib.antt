@@ -1,0 +1,5 @@
+pub mod Counting
+pub mod Order
+pub mod Triangle
+pub mod Places
+pub mod Inserted

@@ -1,0 +1,48 @@
+-- Frames: all cells up to a greatest one, and their order.
+use Rattle.std.specs.Prelude.{ℕ, zero, suc, ◌+◌, ◌-◌, ◌≤◌, min, List, [], ◌∷◌}
+use Rattle.std.specs.List.{flat_map}
+use Rattle.lj_base.specs.Cells.{IsCell, Triple}
+
+-- a frame, by its greatest cell
+pub record Top : Type 0 where
+  pub top : Triple
+
+-- the cell is in the frame
+pub record InFrame (f : Top) (c : Triple) : Type 0 where
+  pub cell : IsCell c
+  pub v : c.v ≤ f.top.v
+  pub k : c.k ≤ f.top.k
+  pub t : c.t ≤ f.top.t
+
+-- n numbers from a number on
+abbrev pub counting : ℕ → ℕ → List ℕ
+counting from zero = []
+counting from (suc n) = from ∷ counting (suc from) n
+
+-- the cells (v,k,t) and those with a greater t up to n of them
+abbrev pub cells_with : ℕ → ℕ → List ℕ → List Triple
+cells_with v k [] = []
+cells_with v k (t ∷ ts) = record { v = v; k = k; t = t } ∷ cells_with v k ts
+
+-- the cells of the frame in ascending order of v, then k, then t
+abbrev pub cells_of : Top → List Triple
+cells_of f = flat_map (λ v. flat_map (λ k. cells_with v k (counting 0 (min k f.top.t + 1)))
+    (counting 0 (min v f.top.k + 1))) (counting 1 f.top.v)
+
+-- how many cells with one v have a lower k
+abbrev pub before_k : ℕ → ℕ → ℕ
+before_k greatest_t zero = 0
+before_k greatest_t (suc k) = before_k greatest_t k + (min k greatest_t + 1)
+
+-- how many cells have a v of at most this
+abbrev pub up_to_v : ℕ → ℕ → ℕ → ℕ
+up_to_v greatest_k greatest_t zero = 0
+up_to_v greatest_k greatest_t (suc v) = up_to_v greatest_k greatest_t v + before_k greatest_t (min (suc v) greatest_k + 1)
+
+-- the place of a cell in that order, from 0
+abbrev pub index_of : Top → Triple → ℕ
+index_of f c = up_to_v f.top.k f.top.t (c.v - 1) + before_k f.top.t c.k + c.t
+
+-- how many cells the frame has
+abbrev pub size_of : Top → ℕ
+size_of f = up_to_v f.top.k f.top.t f.top.v
