@@ -1,6 +1,8 @@
 -- A table whose rows follow each other as those of the triangle has the binomials.
 use Rattle.std.proofs.Common.{◌≡◌, ℕ, zero, suc, ◌+◌, ◌<◌, ◌≤◌, true, List, [], ◌∷◌, length, get_or, refl, ap, ◌∙◌, subst, arith, add_comm}
-use Rattle.std.proofs.lemmas.Bool.{and_parts, eqb-true, false≢true}
+use Rattle.std.proofs.Common.{◌^◌, ltb, lit<}
+use Rattle.std.proofs.lemmas.Bool.{and_parts, eqb-true, false≢true, ltb-true}
+use Rattle.std.specs.List.{list_all}
 use Rattle.lj_base.specs.Colex.{choose}
 use Rattle.lj_base.specs.Pascal.{sums_after, next_row, same_numbers, are_rows_from, first_row}
 
@@ -52,3 +54,14 @@ pub table_has : (rows : List (List ℕ)) (n r : ℕ) → are_rows_from first_row
 table_has rows n r h below small =
     let from_zero : 0 + n ≡ n = omega arith in
     rows_have 0 rows n r h below (omega arith) ∙ ap (λ m. choose m r) from_zero
+
+all_below : (xs : List ℕ) (r : ℕ) → list_all (λ x. ltb x (2 ^ 38)) xs ≡ true → get_or xs r 0 < 2 ^ 38
+all_below [] r h = lit< tt
+all_below (x ∷ xs) zero h = ltb-true x (2 ^ 38) (and_parts (ltb x (2 ^ 38)) (list_all (λ y. ltb y (2 ^ 38)) xs) h).0
+all_below (x ∷ xs) (suc r) h = all_below xs r (and_parts (ltb x (2 ^ 38)) (list_all (λ y. ltb y (2 ^ 38)) xs) h).1
+
+-- an entry of a table of small numbers
+pub table_small : (rows : List (List ℕ)) (n r : ℕ) → list_all (list_all (λ x. ltb x (2 ^ 38))) rows ≡ true → get_or (get_or rows n []) r 0 < 2 ^ 38
+table_small [] n r h = all_below [] r refl
+table_small (row ∷ rows) zero r h = all_below row r (and_parts (list_all (λ x. ltb x (2 ^ 38)) row) (list_all (list_all (λ x. ltb x (2 ^ 38))) rows) h).0
+table_small (row ∷ rows) (suc n) r h = table_small rows n r (and_parts (list_all (λ x. ltb x (2 ^ 38)) row) (list_all (list_all (λ x. ltb x (2 ^ 38))) rows) h).1

@@ -1,4 +1,5 @@
-ghost use Rattle.std.specs.Prelude.{◌≡◌, ◌≤◌, IsTrue, length};
+ghost use Rattle.std.specs.Prelude.{◌≡◌, ◌^◌, ◌<◌, ◌≤◌, IsTrue, length, nat_lt};
+ghost use Rattle.std.specs.List.{list_all};
 ghost use Rattle.lj_base.specs.Colex.{choose};
 ghost use Rattle.lj_base.specs.Pascal.{are_rows_from, first_row};
 
@@ -6,7 +7,8 @@ ghost use Rattle.lj_base.specs.Pascal.{are_rows_from, first_row};
 pub fn binom(n: u64, r: u64) -> u64
     requires few_points { n ≤ 99 }
     requires small_sets { r ≤ 8 }
-    ensures { result ≡ choose n r }
+    ensures value { result ≡ choose n r }
+    ensures small { result < 2 ^ 38 }
 {
     let table = pascal();
     table[n as usize][r as usize]
@@ -16,6 +18,7 @@ pub fn binom(n: u64, r: u64) -> u64
 fn pascal() -> &'static [[u64; 9]; 100]
     ensures rows { IsTrue (are_rows_from first_row result.now) }
     ensures len { length result.now ≡ 100 }
+    ensures small { IsTrue (list_all (list_all (λ x. nat_lt x (2 ^ 38))) result.now) }
 {
     &PASCAL
 }
