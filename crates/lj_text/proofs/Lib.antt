@@ -1,0 +1,6 @@
+pub mod Cutting
+pub mod LineLaws
+pub mod Sending
+pub mod Spelling
+pub mod Splitting
+pub mod TokenLaws

@@ -1,0 +1,55 @@
+ghost use Rattle.std.specs.Prelude.{◌≡◌, ℕ, ◌<◌, ◌++◌, decimal, length, take, IfErr, OnErr, OnOk};
+ghost use Rattle.lj_base.specs.Streams.{Appends, Rose};
+
+use itoa::Buffer;
+use lj_base::{Failed, Memory, Sink};
+use thiserror::Error;
+
+/// A sink failed; its count of faults since.
+#[derive(Clone, Copy, Debug, PartialEq, Eq, Error)]
+#[error("writing failed, {count} faults so far")]
+pub struct WriteFault {
+    pub count: u64,
+}
+
+/// Appends bytes.
+pub fn put(out: &mut Vec<u8>, bytes: &[u8]) -> Result<(), Memory>
+    ensures ok { OnOk result (out.new.items ≡ out.old.items ++ bytes.now) }
+    ensures err { OnErr result (out.new.items ≡ out.old.items) }
+{
+    out.extend_from_slice(bytes)?;
+    Ok(())
+}
+
+/// Appends a number in decimal digits.
+pub fn put_number(out: &mut Vec<u8>, n: u64) -> Result<(), Memory>
+    ensures ok { OnOk result (out.new.items ≡ out.old.items ++ decimal n) }
+    ensures err { OnErr result (out.new.items ≡ out.old.items) }
+{
+    let mut digits = Buffer::new();
+    put(out, digits.format(n).as_bytes())
+}
+
+/// Writes all bytes, in as many pieces as the sink takes.
+pub fn write_all<K: Sink>(sink: &mut K, bytes: &[u8]) -> Result<(), WriteFault>
+    ensures written { OnOk result (Appends (K.written sink.old) (K.written sink.new) bytes.now) }
+    ensures quiet { OnOk result (K.faults sink.new ≡ K.faults sink.old) }
+    ensures fault { IfErr result (λ f. Rose (K.faults sink.old) (K.faults sink.new) × (f.count ≡ K.faults sink.new)) }
+
+    // What went out is a proper front of the bytes.
+    ensures front { OnErr result ((n : ℕ) × (n < length bytes.now)
+        × Appends (K.written sink.old) (K.written sink.new) (take n bytes.now)) }
+{
+    let mut done = 0;
+    while done < bytes.len() {
+        match sink.write(&bytes[done..]) {
+            Ok(count) => done += count,
+            Err(Failed) => {
+                return Err(WriteFault {
+                    count: sink.faults(),
+                });
+            }
+        }
+    }
+    Ok(())
+}
