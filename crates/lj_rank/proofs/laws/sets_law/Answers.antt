@@ -1,0 +1,8 @@
+use Rattle.lj_rank.proofs.Listing.{length-sets, members-sets}
+use Rattle.lj_rank.proofs.laws.sets_law.Goals as goal
+
+pub returns-clause-members : goal.returns-clause-members
+returns-clause-members c = members-sets
+
+pub returns-clause-count : goal.returns-clause-count
+returns-clause-count c = length-sets

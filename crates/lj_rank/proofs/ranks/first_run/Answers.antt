@@ -1,0 +1,14 @@
+use Rattle.std.proofs.Common.{◌-◌, arith}
+use Rattle.lj_rank.proofs.Places.{Ascends-get_or_lt}
+use Rattle.lj_rank.proofs.ranks.first_run.Goals as goal
+
+pub returns-else-at : goal.returns-else-at
+returns-else-at c = record {
+  some = c.loop-run.invariant.some;
+  within = c.loop-run.invariant.within;
+  run = c.loop-run.invariant.run;
+  gap = λ inside.
+      let some = c.loop-run.invariant.some in
+      let higher = Ascends-get_or_lt 0 99 c.args.set.now (c.loop-run.run - 1) c.loop-run.run c.len-len.ensures.ascends (omega arith) inside in
+      omega arith;
+}

@@ -1,0 +1,29 @@
+-- The rank of a set: how many sets of as many points stand before it in colexicographic order.
+use Rattle.std.specs.Prelude.{◌≡◌, ◌≤◌, ◌<◌, ℕ, suc, ◌+◌, ◌-◌, List, [], ◌∷◌, length, slice_index}
+use Rattle.lj_base.specs.Blocks.{IsBlock, Within}
+use Rattle.lj_base.specs.Colex.{choose}
+
+-- the point at place i, from 1, adds the number of sets of i points below it
+abbrev pub rank_from : ℕ → List ℕ → ℕ
+rank_from i [] = 0
+rank_from i (point ∷ points) = choose point i + rank_from (suc i) points
+
+abbrev pub rank_of : List ℕ → ℕ
+rank_of s = rank_from 1 s
+
+-- s is a set of t points of the block
+abbrev pub IsSubset : List ℕ → ℕ → List ℕ → Type 0
+IsSubset b t s = IsBlock 99 t s × Within s b
+
+-- of the sets of t points of the block whose rank is at least `least`, s has the least rank
+pub record IsFirstFrom (b : List ℕ) (t least : ℕ) (s : List ℕ) : Type 0 where
+  pub subset : IsSubset b t s
+  pub from : least ≤ rank_of s
+  pub first : (r : List ℕ) → IsSubset b t r → least ≤ rank_of r → rank_of s ≤ rank_of r
+
+-- the first n points of s follow each other, and the point after them does not follow
+pub record IsFirstRun (s : List ℕ) (n : ℕ) : Type 0 where
+  pub some : 0 < n
+  pub within : n ≤ length s
+  pub run : (i : ℕ) → i < n → slice_index s i ≡ slice_index s 0 + i
+  pub gap : n < length s → slice_index s (n - 1) + 1 < slice_index s n

@@ -1,0 +1,10 @@
+//! Sets of at most 8 points, and their ranks in colexicographic order.
+#![tactic(auto)]
+
+mod laws;
+mod ranks;
+mod sets;
+
+pub use laws::{order_law, sets_law};
+pub use ranks::{next, rank, seek, unrank};
+pub use sets::TSet;
