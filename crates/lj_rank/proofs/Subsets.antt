@@ -25,10 +25,10 @@ Ascends-narrow lo v w (x ∷ xs) h below = (h.0, below x (inl refl), Ascends-nar
 pub Ascends-subset : (v t : ℕ) (b s : List ℕ) → Ascends 0 v b → IsSubset b t s → Ascends 0 v s
 Ascends-subset v t b s k h = Ascends-narrow 0 99 v s h.0.0 (λ p has. Has-below 0 v p b k (Has-from_Within s b h.1 p has))
 
-IsSubset-widen : (b : List ℕ) (v t : ℕ) (s : List ℕ) → IsSubset b t s → IsSubset (b ++ v ∷ []) t s
+pub IsSubset-widen : (b : List ℕ) (v t : ℕ) (s : List ℕ) → IsSubset b t s → IsSubset (b ++ v ∷ []) t s
 IsSubset-widen b v t s h = (h.0, Within-from_Has s (b ++ v ∷ []) (λ p has. Has-push b v p (Has-from_Within s b h.1 p has)))
 
-IsSubset-push : (b : List ℕ) (v t : ℕ) (s : List ℕ) → Ascends 0 v b → v < 99 → 0 < t → IsSubset b (t - 1) s → IsSubset (b ++ v ∷ []) t (s ++ v ∷ [])
+pub IsSubset-push : (b : List ℕ) (v t : ℕ) (s : List ℕ) → Ascends 0 v b → v < 99 → 0 < t → IsSubset b (t - 1) s → IsSubset (b ++ v ∷ []) t (s ++ v ∷ [])
 IsSubset-push b v t s k below some h = (
   (Ascends-push 0 v 99 s (omega arith) below (Ascends-subset v (t - 1) b s k h), omega (arith, length_push s v, h.0.1)),
   Within-from_Has (s ++ v ∷ []) (b ++ v ∷ []) (λ p has.
@@ -42,7 +42,7 @@ Within-drop_last b v s k h =
     ⊎_elim (λ in_b. in_b) (λ e. absurd (omega (arith, below, e))) (Has-push_cases b v p (h p has)))
 
 -- what holds of the sets without the last point, and of those with it, holds of all
-subset_cases : (b : List ℕ) (v t : ℕ) (P : List ℕ → Type 0) → Ascends 0 v b → v < 99 → 0 < t
+pub subset_cases : (b : List ℕ) (v t : ℕ) (P : List ℕ → Type 0) → Ascends 0 v b → v < 99 → 0 < t
     → ((s : List ℕ) → IsSubset b t s → P s) → ((s : List ℕ) → IsSubset b (t - 1) s → P (s ++ v ∷ []))
     → (s : List ℕ) → IsSubset (b ++ v ∷ []) t s → P s
 subset_cases b v t P k below some without with_last s h =
@@ -79,7 +79,7 @@ rank-subset_below b v t s k h =
     let count = ap (choose v) h.0.1 in
     omega (arith, rank-below v s (Ascends-subset v t b s k h), count)
 
-rank-subset_push : (b : List ℕ) (v t : ℕ) (s : List ℕ) → 0 < t → IsSubset b (t - 1) s → rank_of (s ++ v ∷ []) ≡ rank_of s + choose v t
+pub rank-subset_push : (b : List ℕ) (v t : ℕ) (s : List ℕ) → 0 < t → IsSubset b (t - 1) s → rank_of (s ++ v ∷ []) ≡ rank_of s + choose v t
 rank-subset_push b v t s some h =
     let place : suc (length s) ≡ t = omega (arith, h.0.1) in
     let count = ap (choose v) place in
