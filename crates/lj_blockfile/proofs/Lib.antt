@@ -1,0 +1,6 @@
+pub mod Bodies
+pub mod Members
+pub mod Reading
+pub mod Unique
+pub mod Writing
+pub mod Written

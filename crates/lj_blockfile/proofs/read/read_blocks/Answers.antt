@@ -1,0 +1,19 @@
+use Rattle.lj_blockfile.proofs.Bodies.{AreBlocks-from_lines, AreBlocksOf-end, AreReadSoFar-step, IsFirstFaulty-here, not_faulty, same_blocks, with_left}
+use Rattle.lj_blockfile.proofs.read.read_blocks.Goals as goal
+
+pub loop-line-preserved : goal.loop-line-preserved
+loop-line-preserved c =
+    let read = with_left c.in-Some.ensures.steps c.loop-line.invariant in
+    let known = c.in-Ok-read_block.ensures in
+    rw (c.push.ensures.items, c.if-is_err.ensures.negation) (AreReadSoFar-step read _ known.block known.no_fault)
+
+pub returns-clause-shape : goal.returns-clause-shape
+returns-clause-shape c = AreBlocks-from_lines _ _ _ _ _ c.loop-line.invariant.blocks
+
+pub returns-in-Err-clause-complete : goal.returns-in-Err-clause-complete
+returns-in-Err-clause-complete c = λ bs h.
+    let read = with_left c.in-Some.ensures.steps c.loop-line.invariant in
+    absurd (not_faulty _ _ h (IsFirstFaulty-here read _ c.in-Err.ensures.fault))
+
+pub returns-clause-complete : goal.returns-clause-complete
+returns-clause-complete c = λ bs h. same_blocks (AreBlocksOf-end h.few (with_left c.in-None.ensures.steps.0 c.loop-line.invariant)) h

@@ -1,0 +1,5 @@
+use Rattle.lj_blockfile.proofs.Bodies.{AreReadSoFar}
+use Rattle.lj_blockfile.proofs.read.read_blocks.Given as goal
+
+abbrev pub invariant-loop-line : goal.invariant-loop-line
+invariant-loop-line l = AreReadSoFar l.body l.v l.k l.line-iterator l.blocks.items

@@ -1,0 +1,12 @@
+//! Block files: blocks read from lines and written as lines.
+#![tactic(auto)]
+
+mod faults;
+mod laws;
+mod read;
+mod write;
+
+pub use faults::{BodyFault, LineFault};
+pub use laws::written_law;
+pub use read::{read_block, read_blocks};
+pub use write::write_block;
