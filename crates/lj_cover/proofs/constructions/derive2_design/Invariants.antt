@@ -1,0 +1,10 @@
+use Rattle.std.proofs.Common.{◌≡◌, ◌≤◌, length, take, vec_capacity, vec_len}
+use Rattle.lj_cover.specs.BlockLists.{derived2_blocks}
+use Rattle.lj_cover.proofs.constructions.derive2_design.Given as goal
+
+abbrev pub invariant-loop-b : goal.invariant-loop-b
+invariant-loop-b l = record {
+  items : l.blocks.items ≡ derived2_blocks l.x l.y (take l.b-index l.b-items);
+  room : length l.b-items ≤ vec_capacity l.blocks;
+  len : vec_len l.blocks ≤ l.b-index;
+}

@@ -1,0 +1,8 @@
+use Rattle.lj_cover.proofs.Bases.{all_cover, length-sets}
+use Rattle.lj_cover.proofs.laws.all_cover.Goals as goal
+
+pub returns-clause-covers : goal.returns-clause-covers
+returns-clause-covers c = all_cover
+
+pub returns-clause-counts : goal.returns-clause-counts
+returns-clause-counts c = length-sets
