@@ -1,0 +1,36 @@
+//! The program `ljcr`: checks whether the blocks of its input cover every set of points of a cell.
+#![tactic(auto)]
+
+mod check;
+mod ends;
+mod given;
+#[cfg(test)]
+mod rows;
+mod top;
+mod verdicts;
+mod words;
+
+pub use check::check_run;
+pub use given::{Given, read_given};
+use lj_base::{StdSink, StdSource};
+use std::process::ExitCode;
+use std::{env, io};
+pub use top::ljcr;
+pub use verdicts::Verdict;
+pub use words::{CheckCall, read_words};
+
+/// The status where the words cannot be had.
+const NO_WORDS: u8 = 8;
+
+fn main(rt: HostRuntime) -> ExitCode {
+    let Ok(args) = env::args(&rt) else {
+        return ExitCode::from(NO_WORDS);
+    };
+    let words: Vec<String> = match args.skip(1).collect(rt.alloc()) {
+        Ok(words) => words,
+        Err(_) => return ExitCode::from(NO_WORDS),
+    };
+    let mut input = StdSource::new(rt.reader());
+    let mut out = StdSink::new(io::writer(&rt));
+    ExitCode::from(ljcr(&rt, rt.alloc(), &words, &mut input, &mut out))
+}
