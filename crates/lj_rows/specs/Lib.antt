@@ -1,0 +1,2 @@
+pub mod CoverTests
+pub mod CoverExamples

@@ -1,0 +1,199 @@
+use lj_base::{Block, Memory};
+use lj_blockfile::{BodyFault, LineFault, read_block, read_blocks, write_block, written_law};
+use std::alloc::Global;
+use std::test::Fail;
+
+// The block of these points, each below 99, of at most 25.
+fn block_of(points: &[u8]) -> Block {
+    let mut block = Block::empty();
+    for p in points {
+        if *p < 99 && block.len() < 25 {
+            block.insert(*p);
+        }
+    }
+    block
+}
+
+#[test]
+fn a_line_holds_a_block_or_has_a_fault(rt: HostRuntime) -> Result<(), Fail> {
+    let repeat = |point| Err(LineFault::Repeat { point });
+    let range = |value| Err(LineFault::PointRange { value });
+    let not_number = |column| Err(LineFault::NotNumber { column });
+    let short = |count| Err(LineFault::Short { count });
+    let long = |count| Err(LineFault::Long { count });
+    // the line, v, k, the block's points from 0 or the fault
+    let rows: [(&[u8], u64, u64, Result<&[u8], LineFault>); 20] = [
+        (b"0 1 2", 5, 3, range(0)),
+        (b"1 2 6", 5, 3, range(6)),
+        (b"1 2 2", 5, 3, repeat(2)),
+        (b"1 2", 5, 3, short(2)),
+        (b"1 2 3 4", 5, 3, long(4)),
+        (b"1 2 3 x 0", 5, 3, long(5)),
+        (b"1 x 3", 5, 3, not_number(3)),
+        (b"", 5, 3, short(0)),
+        (b"6 x 3", 5, 3, range(6)),
+        (b"1 1 x", 5, 3, repeat(1)),
+        (b"2 2", 5, 3, repeat(2)),
+        (b"1 2 x", 5, 2, long(3)),
+        (b" 3\t1  2 ", 5, 3, Ok(&[0, 1, 2])),
+        (b"001 2 3", 5, 3, Ok(&[0, 1, 2])),
+        (b"5 4 3", 5, 3, Ok(&[2, 3, 4])),
+        (b"1000000000000000000 2 3", 5, 3, not_number(1)),
+        (
+            b"999999999999999999 2 3",
+            5,
+            3,
+            range(999_999_999_999_999_999),
+        ),
+        (b"-1 2 3", 5, 3, not_number(1)),
+        (b"1,2,3", 5, 3, not_number(1)),
+        (b"99", 99, 1, Ok(&[98])),
+    ];
+    for (line, v, k, want) in rows {
+        assert_eq!(rt;
+            read_block(line, v, k),
+            want.map(|points| block_of(points)),
+            "of {line:?}"
+        );
+    }
+    Ok(())
+}
+
+const FANO: &[u8] = b"4\t2 1\r\n\r\n2 3 5\r\n6 4 3\n 4 5 7 \n1 5 6\n2 6 7\n1 3 7";
+
+#[test]
+fn a_text_holds_a_block_for_each_line(rt: HostRuntime) -> Result<(), Fail> {
+    let rows: [&[u8]; 7] = [
+        &[0, 1, 3],
+        &[1, 2, 4],
+        &[2, 3, 5],
+        &[3, 4, 6],
+        &[0, 4, 5],
+        &[1, 5, 6],
+        &[0, 2, 6],
+    ];
+    let blocks = match read_blocks(rt.alloc(), FANO, 7, 3) {
+        Ok(blocks) => blocks,
+        Err(_) => Vec::new(rt.alloc()),
+    };
+    assert_eq!(rt; blocks.len(), 7);
+    for (block, points) in blocks.iter().zip(rows.iter()) {
+        assert_eq!(rt; *block, block_of(points));
+    }
+    Ok(())
+}
+
+#[test]
+fn the_first_faulty_line_is_named(rt: HostRuntime) -> Result<(), Fail> {
+    // the text, how many blocks it holds or its fault
+    let rows: [(&[u8], Result<usize, BodyFault>); 6] = [
+        (b"", Ok(0)),
+        (b" \n\t\r\n\n", Ok(0)),
+        (b"1 2\n2 1\n1 2", Ok(3)),
+        (
+            b"1 2\n \n1 x\n1 1\n",
+            Err(BodyFault::Line {
+                number: 3,
+                fault: LineFault::NotNumber { column: 3 },
+            }),
+        ),
+        (
+            b"1 2\n2 3\n4",
+            Err(BodyFault::Line {
+                number: 3,
+                fault: LineFault::PointRange { value: 4 },
+            }),
+        ),
+        (
+            b"\n1\n1 2 3\n",
+            Err(BodyFault::Line {
+                number: 2,
+                fault: LineFault::Short { count: 1 },
+            }),
+        ),
+    ];
+    for (text, want) in rows {
+        let read = read_blocks(rt.alloc(), text, 3, 2);
+        assert_eq!(rt; read.map(|blocks| blocks.len()), want, "of {text:?}");
+    }
+    Ok(())
+}
+
+#[test]
+fn a_text_has_at_most_100000_lines(rt: HostRuntime) -> Result<(), Fail> {
+    let mut text = Vec::new(rt.alloc());
+    for _ in 0..100_000 {
+        text.extend_from_slice(b"1\n")?;
+    }
+    let most = read_blocks(rt.alloc(), &text, 1, 1);
+    assert_eq!(rt; most.map(|blocks| blocks.len()), Ok(100_000));
+    text.extend_from_slice(b"\n \nx")?;
+    let more = read_blocks(rt.alloc(), &text, 1, 1);
+    assert_eq!(rt;
+        more.map(|blocks| blocks.len()),
+        Err(BodyFault::Blocks { n: 100_001 })
+    );
+    Ok(())
+}
+
+// A line with 7, and the block's line behind it.
+fn line_behind_7(alloc: Global, points: &[u8]) -> Result<Vec<u8>, Memory> {
+    let block = block_of(points);
+    let mut out = Vec::new(alloc);
+    out.extend_from_slice(b"7\n")?;
+    write_block(&block, &mut out)?;
+    Ok(out)
+}
+
+#[test]
+fn a_block_is_written_as_its_line(rt: HostRuntime) -> Result<(), Fail> {
+    written_law();
+    let rows: [(&[u8], &[u8]); 4] = [
+        (&[9, 0, 1], b"7\n1 2 10\n"),
+        (&[], b"7\n\n"),
+        (&[98], b"7\n99\n"),
+        (&[0], b"7\n1\n"),
+    ];
+    for (points, want) in rows {
+        let out = line_behind_7(rt.alloc(), points)?;
+        assert_eq!(rt; out.as_slice(), want, "for {points:?}");
+    }
+    Ok(())
+}
+
+#[test]
+fn faults_are_told(rt: HostRuntime) -> Result<(), Fail> {
+    let line = |fault| BodyFault::Line { number: 3, fault };
+    let rows: [(BodyFault, &str); 7] = [
+        (
+            line(LineFault::NotNumber { column: 5 }),
+            "line 3: column 5: not a number",
+        ),
+        (
+            line(LineFault::PointRange { value: 0 }),
+            "line 3: point 0 is out of range",
+        ),
+        (
+            line(LineFault::Repeat { point: 2 }),
+            "line 3: point 2 is repeated",
+        ),
+        (
+            line(LineFault::Short { count: 2 }),
+            "line 3: too few points: 2",
+        ),
+        (
+            line(LineFault::Long { count: 4 }),
+            "line 3: too many points: 4",
+        ),
+        (
+            BodyFault::Blocks { n: 100_001 },
+            "100001 blocks are too many",
+        ),
+        (BodyFault::Memory, "out of memory"),
+    ];
+    for (fault, want) in rows {
+        let told = format!(in rt.alloc(); "{fault}")?;
+        assert_eq!(rt; told.as_str(), want);
+    }
+    Ok(())
+}
