@@ -3,9 +3,9 @@ use Rattle.std.proofs.Common.{◌≡◌, ℕ, zero, suc, ◌+◌, ◌-◌, ◌<�
 use Rattle.std.proofs.lemmas.List.{length-append}
 use Rattle.std.proofs.Common.{⊎_elim}
 use Rattle.std.proofs.lemmas.Bool.{cases_lt}
-use Rattle.std.specs.List.{flat_map, slice_get}
+use Rattle.std.specs.List.{flat_map, range_with_len, slice_get}
 use Rattle.lj_base.specs.Cells.{Triple}
-use Rattle.lj_base.specs.Frames.{Top, InFrame, counting, cells_with, cells_of, before_k, up_to_v, index_of, size_of}
+use Rattle.lj_base.specs.Frames.{Top, InFrame, cells_with, cells_of, before_k, up_to_v, index_of, size_of}
 
 get-append_left : {X : Type 0} (xs ys : List X) (n : ℕ) → n < length xs → slice_get (xs ++ ys) n ≡ slice_get xs n
 get-append_left [] ys n h = absurd (omega arith)
@@ -28,59 +28,59 @@ abbrev total : {X : Type 0} → (ℕ → List X) → ℕ → ℕ → ℕ
 total f a zero = 0
 total f a (suc m) = total f a m + length (f (a + m))
 
-total_front : {X : Type 0} (f : ℕ → List X) (a m : ℕ) → total f a (suc m) ≡ length (f a) + total f (suc a) m
+total_front : {X : Type 0} (f : ℕ → List X) (a m : ℕ) → total f a (suc m) ≡ length (f a) + total f (a + 1) m
 total_front f a zero =
     let e : a + 0 ≡ a = omega arith in
     let same : length (f (a + 0)) ≡ length (f a) = ap (λ n. length (f n)) e in
     omega (arith, same)
 total_front f a (suc m) =
-    let e : a + suc m ≡ suc a + m = omega arith in
-    let same : length (f (a + suc m)) ≡ length (f (suc a + m)) = ap (λ n. length (f n)) e in
-    let ih : total f a (suc m) ≡ length (f a) + total f (suc a) m = total_front f a m in
+    let e : a + suc m ≡ a + 1 + m = omega arith in
+    let same : length (f (a + suc m)) ≡ length (f (a + 1 + m)) = ap (λ n. length (f n)) e in
+    let ih : total f a (suc m) ≡ length (f a) + total f (a + 1) m = total_front f a m in
     omega (arith, same, ih)
 
-length-pieces : {X : Type 0} (f : ℕ → List X) (a n : ℕ) → length (flat_map f (counting a n)) ≡ total f a n
+length-pieces : {X : Type 0} (f : ℕ → List X) (a n : ℕ) → length (flat_map f (range_with_len a n)) ≡ total f a n
 length-pieces f a zero = refl
 length-pieces f a (suc n) =
-    length-append (f a) (flat_map f (counting (suc a) n)) ∙ ap (λ m. length (f a) + m) (length-pieces f (suc a) n) ∙ sym (total_front f a n)
+    length-append (f a) (flat_map f (range_with_len (a + 1) n)) ∙ ap (λ m. length (f a) + m) (length-pieces f (a + 1) n) ∙ sym (total_front f a n)
 
 at_piece : {X : Type 0} (f : ℕ → List X) (a n m j : ℕ) → m < n → j < length (f (a + m))
-    → slice_get (flat_map f (counting a n)) (total f a m + j) ≡ slice_get (f (a + m)) j
+    → slice_get (flat_map f (range_with_len a n)) (total f a m + j) ≡ slice_get (f (a + m)) j
 at_piece f a zero m j h g = absurd (omega arith)
 at_piece f a (suc n) zero j h g =
     let e : a + 0 ≡ a = omega arith in
     let from_zero : 0 + j ≡ j = omega arith in
-    ap (slice_get (f a ++ flat_map f (counting (suc a) n))) from_zero
-    ∙ get-append_left (f a) (flat_map f (counting (suc a) n)) j (subst (λ b. j < length (f b)) e g)
+    ap (slice_get (f a ++ flat_map f (range_with_len (a + 1) n))) from_zero
+    ∙ get-append_left (f a) (flat_map f (range_with_len (a + 1) n)) j (subst (λ b. j < length (f b)) e g)
     ∙ ap (λ b. slice_get (f b) j) (sym e)
 at_piece f a (suc n) (suc m) j h g =
-    let e : suc a + m ≡ a + suc m = omega arith in
-    let front : total f a (suc m) ≡ length (f a) + total f (suc a) m = total_front f a m in
-    let place : total f a (suc m) + j ≡ length (f a) + (total f (suc a) m + j) = omega (arith, front) in
-    ap (slice_get (f a ++ flat_map f (counting (suc a) n))) place
-    ∙ get-append_right (f a) (flat_map f (counting (suc a) n)) (total f (suc a) m + j)
-    ∙ at_piece f (suc a) n m j (omega arith) (subst (λ b. j < length (f b)) (sym e) g)
+    let e : a + 1 + m ≡ a + suc m = omega arith in
+    let front : total f a (suc m) ≡ length (f a) + total f (a + 1) m = total_front f a m in
+    let place : total f a (suc m) + j ≡ length (f a) + (total f (a + 1) m + j) = omega (arith, front) in
+    ap (slice_get (f a ++ flat_map f (range_with_len (a + 1) n))) place
+    ∙ get-append_right (f a) (flat_map f (range_with_len (a + 1) n)) (total f (a + 1) m + j)
+    ∙ at_piece f (a + 1) n m j (omega arith) (subst (λ b. j < length (f b)) (sym e) g)
     ∙ ap (λ b. slice_get (f b) j) e
 
-length-cells_with : (v k s n : ℕ) → length (cells_with v k (counting s n)) ≡ n
+length-cells_with : (v k s n : ℕ) → length (cells_with v k (range_with_len s n)) ≡ n
 length-cells_with v k s zero = refl
-length-cells_with v k s (suc n) = let ih = length-cells_with v k (suc s) n in omega (arith, ih)
+length-cells_with v k s (suc n) = let ih = length-cells_with v k (s + 1) n in omega (arith, ih)
 
-get-cells_with : (v k s n j : ℕ) → j < n → slice_get (cells_with v k (counting s n)) j ≡ Some (record { v = v; k = k; t = s + j })
+get-cells_with : (v k s n j : ℕ) → j < n → slice_get (cells_with v k (range_with_len s n)) j ≡ Some (record { v = v; k = k; t = s + j })
 get-cells_with v k s zero j h = absurd (omega arith)
 get-cells_with v k s (suc n) zero h =
     let e : s ≡ s + 0 = omega arith in
     ap (λ t. let c : Triple = record { v = v; k = k; t = t } in Some c) e
 get-cells_with v k s (suc n) (suc j) h =
-    let e : suc s + j ≡ s + suc j = omega arith in
-    get-cells_with v k (suc s) n j (omega arith) ∙ ap (λ t. let c : Triple = record { v = v; k = k; t = t } in Some c) e
+    let e : s + 1 + j ≡ s + suc j = omega arith in
+    get-cells_with v k (s + 1) n j (omega arith) ∙ ap (λ t. let c : Triple = record { v = v; k = k; t = t } in Some c) e
 
 -- the cells with these v and k, and those with this v
 abbrev row : ℕ → ℕ → ℕ → List Triple
-row t v k = cells_with v k (counting 0 (min k t + 1))
+row t v k = cells_with v k (range_with_len 0 (min k t + 1))
 
 abbrev layer : ℕ → ℕ → ℕ → List Triple
-layer k t v = flat_map (row t v) (counting 0 (min v k + 1))
+layer k t v = flat_map (row t v) (range_with_len 0 (min v k + 1))
 
 total-row : (t v m : ℕ) → total (row t v) 0 m ≡ before_k t m
 total-row t v zero = refl

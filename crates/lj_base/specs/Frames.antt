@@ -1,6 +1,6 @@
 -- Frames: all cells up to a greatest one, and their order.
 use Rattle.std.specs.Prelude.{ℕ, zero, suc, ◌+◌, ◌-◌, ◌≤◌, min, List, [], ◌∷◌}
-use Rattle.std.specs.List.{flat_map}
+use Rattle.std.specs.List.{flat_map, range_with_len}
 use Rattle.lj_base.specs.Cells.{IsCell, Triple}
 
 -- a frame, by its greatest cell
@@ -14,11 +14,6 @@ pub record InFrame (f : Top) (c : Triple) : Type 0 where
   pub k : c.k ≤ f.top.k
   pub t : c.t ≤ f.top.t
 
--- n numbers from a number on
-abbrev pub counting : ℕ → ℕ → List ℕ
-counting from zero = []
-counting from (suc n) = from ∷ counting (suc from) n
-
 -- the cells (v,k,t) and those with a greater t up to n of them
 abbrev pub cells_with : ℕ → ℕ → List ℕ → List Triple
 cells_with v k [] = []
@@ -26,8 +21,8 @@ cells_with v k (t ∷ ts) = record { v = v; k = k; t = t } ∷ cells_with v k ts
 
 -- the cells of the frame in ascending order of v, then k, then t
 abbrev pub cells_of : Top → List Triple
-cells_of f = flat_map (λ v. flat_map (λ k. cells_with v k (counting 0 (min k f.top.t + 1)))
-    (counting 0 (min v f.top.k + 1))) (counting 1 f.top.v)
+cells_of f = flat_map (λ v. flat_map (λ k. cells_with v k (range_with_len 0 (min k f.top.t + 1)))
+    (range_with_len 0 (min v f.top.k + 1))) (range_with_len 1 f.top.v)
 
 -- how many cells with one v have a lower k
 abbrev pub before_k : ℕ → ℕ → ℕ

@@ -2,6 +2,7 @@
 use Rattle.std.proofs.Common.{◌≡◌, ℕ, ◌≤◌, ◌↔◌, List, length, sym, ◌∙◌, subst, arith}
 use Rattle.std.specs.List.{Contains}
 use Rattle.lj_base.specs.Cells.{IsCell, Triple}
+use Rattle.lj_base.specs.Frames.{Top}
 use Rattle.lj_base.specs.Blocks.{Covers}
 use Rattle.lj_cover.specs.Rules.{Rule, Upload, One, Runs, All, Leaf, Derived, Derived2, Drop, Add, Grow, Lower, Product, Induced, ForUpload}
 use Rattle.lj_cover.specs.Derivations.{Tree, Trees, node, none, more, root_cell, Derivable, EachRule, EachRules, IsDerivation, IsFrom, IsLeast, expand}
@@ -23,8 +24,8 @@ schonheim_derivable c n h =
     let limits = subst IsCell h.cell_is (root_in_limits h.tree h.derivation) in
     subst (λ m. schonheim c.v c.k c.t ≤ m) found.2 (schonheim_bounds c.v c.k c.t found.0 limits.2 limits.3 found.1)
 
-pub least_one : (top c : Triple) (uploads : List Upload) (m n : ℕ) → IsLeast top uploads c m → IsLeast top uploads c n → m ≡ n
-least_one top c uploads m n h k =
+pub least_one : (frame : Top) (c : Triple) (uploads : List Upload) (m n : ℕ) → IsLeast frame uploads c m → IsLeast frame uploads c n → m ≡ n
+least_one frame c uploads m n h k =
     let low = h.least k.derivable.tree k.derivable.derivation k.derivable.inside k.derivable.from k.derivable.cell_is in
     let high = k.least h.derivable.tree h.derivable.derivation h.derivable.inside h.derivable.from h.derivable.cell_is in
     omega (arith, h.derivable.cost_is, k.derivable.cost_is)
@@ -56,9 +57,9 @@ from_more : (uploads others : List Upload) → ((u : Upload) → Contains upload
 from_more uploads others has d h =
     EachRule-weaker (ForUpload (Contains uploads)) (ForUpload (Contains others)) (ForUpload-weaker (Contains uploads) (Contains others) has) d h
 
-pub least_by_members : (top c : Triple) (uploads others : List Upload) (n : ℕ) → ((u : Upload) → Contains uploads u ↔ Contains others u)
-    → IsLeast top uploads c n → IsLeast top others c n
-least_by_members top c uploads others n same h = record {
+pub least_by_members : (frame : Top) (c : Triple) (uploads others : List Upload) (n : ℕ) → ((u : Upload) → Contains uploads u ↔ Contains others u)
+    → IsLeast frame uploads c n → IsLeast frame others c n
+least_by_members frame c uploads others n same h = record {
   derivable = record {
     tree = h.derivable.tree;
     derivation = h.derivable.derivation;

@@ -2,6 +2,7 @@
 use Rattle.std.specs.Prelude.{◌≡◌, ℕ, ◌≤◌, List, [], ◌∷◌}
 use Rattle.std.specs.List.{Contains}
 use Rattle.lj_base.specs.Cells.{IsCell, Triple}
+use Rattle.lj_base.specs.Frames.{InFrame, Top}
 use Rattle.lj_cover.specs.Rules.{Rule, Upload, Condition, ForUpload, IsCovering, rule_cell, rule_children, rule_blocks, rule_cost}
 
 mutual
@@ -63,16 +64,9 @@ abbrev mutual
   expands none = []
   expands (more d ds) = expand d ∷ expands ds
 
--- the cell is one of the frame: its numbers are at most those of the frame's top cell
-pub record InFrame (top c : Triple) : Type 0 where
-  pub in_limits : IsCell c
-  pub points : c.v ≤ top.v
-  pub block_size : c.k ≤ top.k
-  pub set_size : c.t ≤ top.t
-
 -- every cell of the tree is in the frame
-abbrev pub IsIn : Triple → Tree → Type 0
-IsIn top d = EachRule (λ r. InFrame top (rule_cell r)) d
+abbrev pub IsIn : Top → Tree → Type 0
+IsIn frame d = EachRule (λ r. InFrame frame (rule_cell r)) d
 
 -- every upload of the tree is one of the list
 abbrev pub IsFrom : List Upload → Tree → Type 0
@@ -86,15 +80,15 @@ pub record Derivable (c : Triple) (n : ℕ) : Type 0 where
   pub cost_is : tree_cost tree ≡ n
 
 -- some derivation of the cell, in the frame and from these uploads, has this cost
-pub record DerivableIn (top : Triple) (uploads : List Upload) (c : Triple) (n : ℕ) : Type 0 where
+pub record DerivableIn (frame : Top) (uploads : List Upload) (c : Triple) (n : ℕ) : Type 0 where
   pub tree : Tree
   pub derivation : IsDerivation tree
-  pub inside : IsIn top tree
+  pub inside : IsIn frame tree
   pub from : IsFrom uploads tree
   pub cell_is : root_cell tree ≡ c
   pub cost_is : tree_cost tree ≡ n
 
 -- no derivation of the cell, in the frame and from these uploads, costs less, and one costs this
-pub record IsLeast (top : Triple) (uploads : List Upload) (c : Triple) (n : ℕ) : Type 0 where
-  pub derivable : DerivableIn top uploads c n
-  pub least : (d : Tree) → IsDerivation d → IsIn top d → IsFrom uploads d → root_cell d ≡ c → n ≤ tree_cost d
+pub record IsLeast (frame : Top) (uploads : List Upload) (c : Triple) (n : ℕ) : Type 0 where
+  pub derivable : DerivableIn frame uploads c n
+  pub least : (d : Tree) → IsDerivation d → IsIn frame d → IsFrom uploads d → root_cell d ≡ c → n ≤ tree_cost d

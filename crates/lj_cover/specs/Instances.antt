@@ -2,9 +2,9 @@
 use Rattle.std.specs.Prelude.{◌≡◌, ℕ, suc, ◌+◌, ◌-◌, ◌*◌, ◌<◌, ◌≤◌, ◌==◌, ◌&&◌, nat_le, List, [], ◌∷◌, map, length}
 use Rattle.std.specs.List.{All as AllOf, AllByRecursion, Contains, count_by, filter, range_with_len}
 use Rattle.lj_base.specs.Cells.{Triple}
+use Rattle.lj_base.specs.Frames.{InFrame, Top}
 use Rattle.lj_cover.specs.Operations.{cut}
 use Rattle.lj_cover.specs.Rules.{Rule, Upload, One, Runs, All, Leaf, Derived, Derived2, Drop, Add, Grow, Lower, Product, Induced, Condition, ForUpload, IsCovering, rule_cell, rule_children, cut_cost, rule_cost, triple}
-use Rattle.lj_cover.specs.Derivations.{InFrame}
 
 -- the rule has children, or an upload that is cut
 abbrev pub IsStep : Rule → Type 0
@@ -22,11 +22,11 @@ IsStep (Product c v1 parts) = Unit {0}
 IsStep (Induced u w k) = Unit {0}
 
 -- one use of drop, add, grow, lower, product or induced at a cell, with cells of the frame in the place of its children
-pub record IsInstance (top : Triple) (uploads : List Upload) (c : Triple) (r : Rule) : Type 0 where
+pub record IsInstance (frame : Top) (uploads : List Upload) (c : Triple) (r : Rule) : Type 0 where
   pub step : IsStep r
   pub cell_is : rule_cell r ≡ c
   pub condition : Condition r
-  pub children_inside : AllByRecursion (InFrame top) (rule_children r)
+  pub children_inside : AllByRecursion (InFrame frame) (rule_children r)
   pub upload_from : ForUpload (Contains uploads) r
 
 -- the cost of the rule where each child costs what its cell's number says
@@ -49,26 +49,26 @@ row_price_from bounds c l (n ∷ ns) = n * cut_cost c.t c.k (bounds (triple l c.
 abbrev pub row_price : (Triple → ℕ) → Triple → List ℕ → ℕ
 row_price bounds c counts = row_price_from bounds c 0 counts
 
--- some instance at the reader's cell, in the frame of this top, has the child's cell as a child; both are cells of the frame
-pub data Reads (top reader child : Triple) : Type 0 where
-  by_drop : child ≡ triple (reader.v + 1) reader.k reader.t → Reads top reader child
-  by_add : child ≡ triple (reader.v - 1) (reader.k - 1) reader.t → reader.t < reader.k → Reads top reader child
-  by_grow : child ≡ triple reader.v (reader.k - 1) reader.t → reader.t < reader.k → Reads top reader child
-  by_lower : child ≡ triple reader.v reader.k (reader.t + 1) → reader.t < reader.k → Reads top reader child
+-- some instance at the reader's cell, in the frame, has the child's cell as a child; both are cells of the frame
+pub data Reads (frame : Top) (reader child : Triple) : Type 0 where
+  by_drop : child ≡ triple (reader.v + 1) reader.k reader.t → Reads frame reader child
+  by_add : child ≡ triple (reader.v - 1) (reader.k - 1) reader.t → reader.t < reader.k → Reads frame reader child
+  by_grow : child ≡ triple reader.v (reader.k - 1) reader.t → reader.t < reader.k → Reads frame reader child
+  by_lower : child ≡ triple reader.v reader.k (reader.t + 1) → reader.t < reader.k → Reads frame reader child
   -- what the reader has beside the child makes a second factor
   by_product : child.v < reader.v → child.k ≤ reader.k → child.t ≤ reader.t
-      → reader.t - child.t ≤ reader.k - child.k → reader.k - child.k ≤ reader.v - child.v → Reads top reader child
+      → reader.t - child.t ≤ reader.k - child.k → reader.k - child.k ≤ reader.v - child.v → Reads frame reader child
   -- a block of the frame may have so many points below the reader's v
-  by_induced : child ≡ triple child.v reader.k reader.t → reader.k < child.v → child.v ≤ reader.v → child.v ≤ top.k → Reads top reader child
+  by_induced : child ≡ triple child.v reader.k reader.t → reader.k < child.v → child.v ≤ reader.v → child.v ≤ frame.top.k → Reads frame reader child
 
 -- each upload of the list covers, and its cell is in the frame
-abbrev pub AreUploads : Triple → List Upload → Type 0
-AreUploads top uploads = AllOf (λ u. IsCovering u × InFrame top u.cell) uploads
+abbrev pub AreUploads : Top → List Upload → Type 0
+AreUploads frame uploads = AllOf (λ u. IsCovering u × InFrame frame u.cell) uploads
 
 -- some uploads and some instance from them at the reader's cell have the child's cell as a child
-pub record ReadSomewhere (top reader child : Triple) : Type 0 where
+pub record ReadSomewhere (frame : Top) (reader child : Triple) : Type 0 where
   pub uploads : List Upload
   pub rule : Rule
-  pub are_uploads : AreUploads top uploads
-  pub instance : IsInstance top uploads reader rule
+  pub are_uploads : AreUploads frame uploads
+  pub instance : IsInstance frame uploads reader rule
   pub has_child : Contains (rule_children rule) child

@@ -5,9 +5,10 @@ ghost use Rattle.std.specs.List.{AllByRecursion, AllZip, Contains, flat_map};
 ghost use Rattle.lj_base.specs.Blocks.{AreBlocks, Covers};
 ghost use Rattle.lj_base.specs.Cells.{IsCell, Triple};
 ghost use Rattle.lj_base.specs.Colex.{choose, sets};
+ghost use Rattle.lj_base.specs.Frames.{InFrame, Top};
 ghost use Rattle.lj_cover.specs.BlockLists.{add_blocks, ceil_div, cut_sizes, derived_blocks, derived2_blocks, drop_blocks, grow_blocks, induced_blocks, one_block, product_blocks, run_blocks};
 ghost use Rattle.lj_cover.specs.Rules.{Condition, Induced, Part, Rule, Splits, Upload, rule_cell, rule_children, part_cells, rule_blocks, rule_cost, triple};
-ghost use Rattle.lj_cover.specs.Derivations.{Derivable, InFrame, IsDerivation, IsLeast, IsSound, Tree, tree_cost, expand, root_cell};
+ghost use Rattle.lj_cover.specs.Derivations.{Derivable, IsDerivation, IsLeast, IsSound, Tree, tree_cost, expand, root_cell};
 ghost use Rattle.lj_cover.specs.Instances.{AreUploads, IsInstance, ReadSomewhere, Reads, price, cut_counts, row_price};
 ghost use Rattle.lj_cover.specs.Lower.{schonheim};
 
@@ -85,8 +86,8 @@ pub fn expansion_covers()
 
 /// The least cost is one number, and the order and repeats of the uploads do not matter to it.
 pub fn least_is_one()
-    ensures one { (top c : Triple) (uploads : List Upload) (m n : ℕ) → IsLeast top uploads c m → IsLeast top uploads c n → m ≡ n }
-    ensures by_members { (top c : Triple) (uploads others : List Upload) (n : ℕ) → ((u : Upload) → Contains uploads u ↔ Contains others u) → IsLeast top uploads c n → IsLeast top others c n }
+    ensures one { (frame : Top) (c : Triple) (uploads : List Upload) (m n : ℕ) → IsLeast frame uploads c m → IsLeast frame uploads c n → m ≡ n }
+    ensures by_members { (frame : Top) (c : Triple) (uploads others : List Upload) (n : ℕ) → ((u : Upload) → Contains uploads u ↔ Contains others u) → IsLeast frame uploads c n → IsLeast frame others c n }
 {}
 
 /// The price of an induced instance depends on its upload by the row alone.
@@ -103,8 +104,8 @@ pub fn price_grows()
 
 /// A cell reads just the children of its instances.
 pub fn reads_are_children()
-    ensures each { (top c : Triple) (uploads : List Upload) (r : Rule) → AreUploads top uploads → IsInstance top uploads c r → AllByRecursion (Reads top c) (rule_children r) }
-    ensures all { (top c child : Triple) → IsCell top → InFrame top c → InFrame top child → Reads top c child → ReadSomewhere top c child }
+    ensures each { (frame : Top) (c : Triple) (uploads : List Upload) (r : Rule) → AreUploads frame uploads → IsInstance frame uploads c r → AllByRecursion (Reads frame c) (rule_children r) }
+    ensures all { (frame : Top) (c child : Triple) → IsCell frame.top → InFrame frame c → InFrame frame child → Reads frame c child → ReadSomewhere frame c child }
 {}
 
 /// No covering, and so no derivation, has fewer blocks than the lower number.
