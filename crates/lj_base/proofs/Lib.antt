@@ -3,3 +3,4 @@ pub mod Order
 pub mod Triangle
 pub mod Places
 pub mod Inserted
+pub mod Lists

@@ -19,10 +19,6 @@ AllByRecursion-at P [] i inside h = absurd (omega arith)
 AllByRecursion-at P (x ∷ xs) zero inside h = h.0
 AllByRecursion-at P (x ∷ xs) (suc i) inside h = AllByRecursion-at P xs i (omega arith) h.1
 
-pub AllBelow-from_Ascends : (lo v : ℕ) (b : List ℕ) → Ascends lo v b → AllBelow v b
-AllBelow-from_Ascends lo v [] h = tt
-AllBelow-from_Ascends lo v (x ∷ xs) h = (h.1, AllBelow-from_Ascends (suc x) v xs h.2)
-
 -- the points before the i-th are below it
 pub AllBelow-take : (lo v : ℕ) (b : List ℕ) (i : ℕ) → i < length b → Ascends lo v b → AllBelow (get_or b i 0) (take i b)
 AllBelow-take lo v [] i inside h = absurd (omega arith)

@@ -3,11 +3,10 @@ use Rattle.std.proofs.Common.{◌≡◌, ℕ, zero, suc, ◌+◌, ◌-◌, ◌*�
 use Rattle.std.proofs.Math.Nat.{div-mul-le_self, lt-div-mul-add}
 use Rattle.std.proofs.lemmas.Nat.{le-div}
 use Rattle.std.proofs.lemmas.Bool.{cases_eq}
-use Rattle.std.proofs.lemmas.List.{length-map}
 use Rattle.std.proofs.lemmas.List.FromFn.{length-map-range_with_len, length-range_with_len}
 use Rattle.std.specs.List.{AllByRecursion, range_with_len}
 use Rattle.lj_base.specs.Blocks.{Ascends, IsBlock, Has, Within, SomeContains, AreBlocks, Covers}
-use Rattle.lj_base.specs.Colex.{choose, sets}
+use Rattle.lj_base.specs.Colex.{sets}
 use Rattle.lj_cover.specs.Operations.{cut}
 use Rattle.lj_cover.specs.BlockLists.{ceil_div, one_block, run, run_blocks}
 use Rattle.lj_cover.specs.Rules.{triple}
@@ -109,11 +108,3 @@ sets_contain (suc v) (suc k) s h =
 
 pub all_cover : (v k : ℕ) → Covers (sets v k) (triple v k k)
 all_cover v k = record { blocks = sets_are_blocks v k; sets = sets_contain v k }
-
-pub length-sets : (v k : ℕ) → length (sets v k) ≡ choose v k
-length-sets v zero = refl
-length-sets zero (suc k) = refl
-length-sets (suc v) (suc k) =
-    let first = length-sets v (suc k) in
-    let second = length-sets v k in
-    omega (arith, length-append (sets v (suc k)) (map (λ s. s ++ v ∷ []) (sets v k)), length-map (sets v k) (λ s. s ++ v ∷ []))

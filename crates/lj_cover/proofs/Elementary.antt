@@ -1,10 +1,11 @@
 -- The rules drop, add, grow and lower cover where their child does.
 use Rattle.std.proofs.Common.{◌≡◌, ℕ, suc, ◌+◌, ◌-◌, ◌<◌, ◌≤◌, List, [], ◌∷◌, length, map, refl, sym, ap, ◌∙◌, subst, arith, inl, inr, ⊎_elim, length-append}
 use Rattle.lj_base.specs.Blocks.{Ascends, IsBlock, Within, SomeContains, Covers}
+use Rattle.lj_base.proofs.Lists.{Ascends-append}
 use Rattle.lj_cover.specs.Operations.{add_point, cut, drop_last, fill}
 use Rattle.lj_cover.specs.BlockLists.{drop_blocks, add_blocks, grow_blocks}
 use Rattle.lj_cover.specs.Rules.{triple}
-use Rattle.lj_cover.proofs.Points.{AllByRecursion-map, Ascends-append, Ascends-wider, Has-append_left, Has-append_right, Within-append, Within-larger}
+use Rattle.lj_cover.proofs.Points.{AllByRecursion-map, Ascends-wider, Has-append_left, Has-append_right, Within-append, Within-larger}
 use Rattle.lj_cover.proofs.Filling.{Has-fill, IsBlock-fill, covers_fewer}
 use Rattle.lj_cover.proofs.Cutting.{Ascends-cut, Within-cut, length-cut}
 use Rattle.lj_cover.proofs.Splitting.{EndsIn, last_or_below}

@@ -5,10 +5,11 @@ use Rattle.std.proofs.lemmas.List.{length-map}
 use Rattle.std.specs.List.{AllByRecursion, AllZip, flat_map}
 use Rattle.lj_base.specs.Cells.{Triple}
 use Rattle.lj_base.specs.Blocks.{Ascends, IsBlock, Has, Within, SomeContains, AreBlocks, Covers}
+use Rattle.lj_base.proofs.Lists.{Ascends-append}
 use Rattle.lj_cover.specs.Operations.{unite}
 use Rattle.lj_cover.specs.BlockLists.{join_blocks, product_blocks}
 use Rattle.lj_cover.specs.Rules.{Part, Chain, PartFits, Splits, part_cells, triple}
-use Rattle.lj_cover.proofs.Points.{AllByRecursion-append, AllByRecursion-map, Ascends-append, Has-append_left, Has-append_right, SomeContains-append_left, SomeContains-append_right, Within-append, Within-larger, length-ascending}
+use Rattle.lj_cover.proofs.Points.{AllByRecursion-append, AllByRecursion-map, Has-append_left, Has-append_right, SomeContains-append_left, SomeContains-append_right, Within-append, Within-larger, length-ascending}
 use Rattle.lj_cover.proofs.Elementary.{SomeContains-map}
 use Rattle.lj_cover.proofs.Filling.{covers_fewer}
 use Rattle.lj_cover.proofs.Splitting.{sides}

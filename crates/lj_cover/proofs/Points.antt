@@ -49,10 +49,6 @@ pub Within-append : (s t b : List ℕ) → Within s b → Within t b → Within 
 Within-append [] t b h k = k
 Within-append (x ∷ xs) t b h k = (h.0, Within-append xs t b h.1 k)
 
-pub Ascends-append : (lo m v : ℕ) (a b : List ℕ) → lo ≤ m → m ≤ v → Ascends lo m a → Ascends m v b → Ascends lo v (a ++ b)
-Ascends-append lo m v [] b under over h k = Ascends-wider m lo v v b under (omega arith) k
-Ascends-append lo m v (x ∷ xs) b under over h k = (h.0, omega (arith, h.1), Ascends-append (suc x) m v xs b h.1 over h.2 k)
-
 -- some block contains what a larger set has
 pub SomeContains-smaller : (bs : List (List ℕ)) (s t : List ℕ) → ((p : ℕ) → Has s p → Has t p) → SomeContains bs t → SomeContains bs s
 SomeContains-smaller [] s t less h = absurd h

@@ -1,7 +1,7 @@
 -- Ascending lists, taken apart and put together at their greatest point.
 use Rattle.std.proofs.Common.{◌≡◌, ℕ, suc, ◌<◌, ◌≤◌, ◌⊎◌, inl, inr, ⊎_elim, List, [], ◌∷◌, ◌++◌, refl, sym, subst, arith}
 use Rattle.std.proofs.lemmas.Bool.{cases_lt}
-use Rattle.lj_base.specs.Blocks.{AllBelow, Ascends, Has}
+use Rattle.lj_base.specs.Blocks.{Ascends, Has}
 
 -- nothing lies from v on and below v
 none_within : (v : ℕ) (xs : List ℕ) → Ascends v v xs → xs ≡ []
@@ -30,10 +30,6 @@ Ascends-push lo p v (x ∷ xs) from below h = (h.0, omega arith, Ascends-push (s
 pub Ascends-widen : (lo v w : ℕ) (xs : List ℕ) → v ≤ w → Ascends lo v xs → Ascends lo w xs
 Ascends-widen lo v w [] le h = tt
 Ascends-widen lo v w (x ∷ xs) le h = (h.0, omega arith, Ascends-widen (suc x) v w xs le h.2)
-
-pub AllBelow-from_Ascends : (lo v : ℕ) (xs : List ℕ) → Ascends lo v xs → AllBelow v xs
-AllBelow-from_Ascends lo v [] h = tt
-AllBelow-from_Ascends lo v (x ∷ xs) h = (h.1, AllBelow-from_Ascends (suc x) v xs h.2)
 
 pub Has-below : (lo v p : ℕ) (xs : List ℕ) → Ascends lo v xs → Has xs p → p < v
 Has-below lo v p [] h has = absurd has

@@ -1,12 +1,13 @@
 -- What the list of all sets has, and where.
-use Rattle.std.proofs.Common.{◌≡◌, ℕ, zero, suc, ◌+◌, List, [], ◌∷◌, ◌++◌, length, Some, refl, sym, ap, ◌∙◌, arith, zero-add, length-append, map}
-use Rattle.std.proofs.lemmas.List.{length_push, length-map}
+use Rattle.std.proofs.Common.{◌≡◌, ℕ, zero, suc, ◌+◌, List, [], ◌∷◌, ◌++◌, length, Some, refl, sym, ap, ◌∙◌, arith, zero-add, map}
+use Rattle.std.proofs.lemmas.List.{length_push}
 use Rattle.std.proofs.lemmas.List.Elements.{All-append, All-weaker, All-map, All-cons, All-nil, All-contains}
 use Rattle.std.proofs.lemmas.Option.{slice_get-map, slice_get_within, get_or_from_slice_get}
 use Rattle.std.specs.Option.{option_map}
 use Rattle.std.specs.List.{slice_get, All, Contains}
 use Rattle.lj_base.specs.Blocks.{Ascends, IsBlock}
-use Rattle.lj_base.specs.Colex.{choose, sets}
+use Rattle.lj_base.specs.Colex.{sets}
+use Rattle.lj_base.proofs.Lists.{length-sets}
 use Rattle.lj_rank.specs.Ranks.{rank_of}
 use Rattle.lj_rank.proofs.Ascending.{top_cases, Ascends-push, Ascends-widen}
 use Rattle.lj_rank.proofs.Counting.{rank-push}
@@ -21,13 +22,6 @@ slice_get-append_right [] ys i = ap (slice_get ys) (zero-add i)
 slice_get-append_right (x ∷ xs) ys i =
     let e : suc (length xs) + i ≡ suc (length xs + i) = omega arith in
     ap (slice_get (x ∷ (xs ++ ys))) e ∙ slice_get-append_right xs ys i
-
-pub length-sets : (v k : ℕ) → length (sets v k) ≡ choose v k
-length-sets v zero = refl
-length-sets zero (suc k) = refl
-length-sets (suc v) (suc k) =
-    let f : List ℕ → List ℕ = λ s. s ++ v ∷ [] in
-    omega (arith, length-append (sets v (suc k)) (map f (sets v k)), length-map (sets v k) f, length-sets v (suc k), length-sets v k)
 
 without-top : (v : ℕ) (s : List ℕ) → slice_get (sets v (length s)) (rank_of s) ≡ Some s → slice_get (sets (suc v) (length s)) (rank_of s) ≡ Some s
 without-top v [] h = refl

@@ -2,7 +2,7 @@
 use Rattle.std.proofs.Common.{◌≡◌, ℕ, zero, suc, ◌+◌, ◌-◌, ◌<◌, ◌≤◌, List, [], ◌∷◌, ◌++◌, length, take, drop, get_or, ap, ◌∙◌, arith}
 use Rattle.std.proofs.lemmas.List.{get_or-drop, take_more, length-drop}
 use Rattle.lj_base.specs.Blocks.{AllBelow, Ascends}
-use Rattle.lj_rank.proofs.Ascending.{AllBelow-from_Ascends}
+use Rattle.lj_base.proofs.Lists.{AllBelow-from_Ascends}
 
 pub Ascends-get_or_from : (lo v : ℕ) (xs : List ℕ) (i : ℕ) → Ascends lo v xs → i < length xs → lo ≤ get_or xs i 0
 Ascends-get_or_from lo v [] i h within = absurd (omega arith)
@@ -33,11 +33,6 @@ Ascends-drop lo v p [] zero h least = tt
 Ascends-drop lo v p (x ∷ xs) zero h least = (least (omega arith), h.1, h.2)
 Ascends-drop lo v p [] (suc n) h least = tt
 Ascends-drop lo v p (x ∷ xs) (suc n) h least = Ascends-drop (suc x) v p xs n h.2 (λ within. least (omega arith))
-
-pub Ascends-append : (lo m v : ℕ) (xs ys : List ℕ) → lo ≤ m → m ≤ v → Ascends lo m xs → Ascends m v ys → Ascends lo v (xs ++ ys)
-Ascends-append lo m v [] [] from below h k = tt
-Ascends-append lo m v [] (y ∷ ys) from below h k = (omega arith, k.1, k.2)
-Ascends-append lo m v (x ∷ xs) ys from below h k = (h.0, omega arith, Ascends-append (suc x) m v xs ys (omega arith) below h.2 k)
 
 pub Ascends-back : (lo v : ℕ) (xs ys : List ℕ) → Ascends lo v (xs ++ ys) → Ascends lo v ys
 Ascends-back lo v [] ys h = h

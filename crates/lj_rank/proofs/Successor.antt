@@ -4,9 +4,10 @@ use Rattle.std.proofs.lemmas.Bool.{cases_lt}
 use Rattle.std.proofs.lemmas.List.{length_push, drop_all}
 use Rattle.lj_base.specs.Blocks.{Ascends, IsBlock}
 use Rattle.lj_base.specs.Colex.{choose}
+use Rattle.lj_base.proofs.Lists.{Ascends-append}
 use Rattle.lj_rank.specs.Ranks.{rank_from, rank_of, IsFirstRun}
 use Rattle.lj_rank.proofs.Ascending.{Ascends-push, Ascends-widen}
-use Rattle.lj_rank.proofs.Places.{Ascends-get_or_below, Ascends-append, Ascends-drop}
+use Rattle.lj_rank.proofs.Places.{Ascends-get_or_below, Ascends-drop}
 use Rattle.lj_rank.proofs.Counting.{choose-all, rank_from-append, rank-push, rank-below}
 
 -- points that follow each other from a on, at the places from j on

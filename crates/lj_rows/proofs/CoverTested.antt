@@ -5,8 +5,8 @@ use Rattle.std.specs.List.{list_all, list_any}
 use Rattle.lj_base.specs.Blocks.{AllBelow, AreBlocks, Ascends, Covers, Has, SomeContains, Within}
 use Rattle.lj_base.specs.Cells.{Triple}
 use Rattle.lj_base.specs.Colex.{sets}
-use Rattle.lj_cover.specs.Operations.{has_point}
 use Rattle.lj_cover.specs.Rules.{triple}
+use Rattle.lj_cover.proofs.Cutting.{Has-from_test}
 use Rattle.lj_rows.specs.CoverTests.{ascends, contains, covers}
 
 Ascends-from_test : (lo v : ℕ) (b : List ℕ) → ascends lo v b ≡ true → Ascends lo v b
@@ -15,10 +15,6 @@ Ascends-from_test lo v (x ∷ xs) h =
     let first = and_parts (leb lo x) (ltb x v && ascends (suc x) v xs) h in
     let second = and_parts (ltb x v) (ascends (suc x) v xs) first.1 in
     (leb-true lo x first.0, ltb-true x v second.0, Ascends-from_test (suc x) v xs second.1)
-
-Has-from_test : (b : List ℕ) (p : ℕ) → has_point b p ≡ true → Has b p
-Has-from_test [] p h = false≢true h
-Has-from_test (x ∷ xs) p h = ⊎_elim (λ e. inl (eqb-true x p e)) (λ rest. inr (Has-from_test xs p rest)) (or_cases _ _ h)
 
 -- a block that has the points of b has those of each set within b
 Within-from_test : (s b c : List ℕ) → Within s b → contains b c ≡ true → Within s c

@@ -1,7 +1,7 @@
 use Rattle.std.proofs.Common.{◌∙◌, ap, sym, take}
 use Rattle.lj_base.specs.Cells.{Triple}
+use Rattle.lj_base.proofs.Lists.{AllBelow-from_Ascends}
 use Rattle.lj_cover.specs.BlockLists.{add_blocks}
-use Rattle.lj_cover.proofs.Appending.{AllBelow-from_Ascends}
 use Rattle.lj_cover.proofs.Blocks.{added_covers, all_made, block_read, covering}
 use Rattle.lj_cover.proofs.constructions.add_design.Goals as goal
 

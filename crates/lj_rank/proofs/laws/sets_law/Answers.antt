@@ -1,4 +1,5 @@
-use Rattle.lj_rank.proofs.Listing.{length-sets, members-sets}
+use Rattle.lj_base.proofs.Lists.{length-sets}
+use Rattle.lj_rank.proofs.Listing.{members-sets}
 use Rattle.lj_rank.proofs.laws.sets_law.Goals as goal
 
 pub returns-clause-members : goal.returns-clause-members

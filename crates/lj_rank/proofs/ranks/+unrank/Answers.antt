@@ -2,8 +2,9 @@ use Rattle.std.proofs.Common.{◌≡◌, ◌<◌, ◌+◌, ◌-◌, arith, ap, s
 use Rattle.std.proofs.lemmas.List.{length_push}
 use Rattle.lj_base.specs.Blocks.{IsBlock}
 use Rattle.lj_base.specs.Colex.{choose}
+use Rattle.lj_base.proofs.Lists.{AllBelow-from_Ascends}
 use Rattle.lj_rank.specs.Ranks.{rank_of}
-use Rattle.lj_rank.proofs.Ascending.{AllBelow-from_Ascends, Ascends-push}
+use Rattle.lj_rank.proofs.Ascending.{Ascends-push}
 use Rattle.lj_rank.proofs.Counting.{choose-some, rank-push}
 use Rattle.lj_rank.proofs.Listing.{sets-place}
 use Rattle.lj_rank.proofs.ranks.+unrank.Goals as goal
