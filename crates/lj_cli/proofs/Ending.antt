@@ -2,6 +2,7 @@
 use Rattle.std.proofs.Common.{◌≡◌, ◌∙◌, ℕ, ◌≤◌, ◌^◌, List, [], ◌∷◌, Option, None, Some, IfSome, get_or, length, refl, sym, ap, subst, arith, inl, inr, ⊎_elim}
 use Rattle.std.proofs.lemmas.Option.{IfSome_then}
 use Rattle.lj_base.specs.Cells.{Triple}
+use Rattle.lj_base.specs.Streams.{IsAtEnd}
 use Rattle.lj_verify.specs.declared.refusals.Refusal.TheVariants.{Blocks, TSets, Marks, Uncovered, Memory}
 use Rattle.lj_cli.specs.CheckOutput.{IsCheckOutput}
 use Rattle.lj_cli.specs.Ends.{Ends, IsAnswer, Prints, Seen}
@@ -27,14 +28,15 @@ status-answer (Refused Memory) = inr (inr refl)
 status-answer (Covered blocks) = inl refl
 
 pub ends-printed : (output : List ℕ → List ℕ → ℕ → Type 0) (s : Seen) (bytes text : List ℕ) (status answer : ℕ)
-    → IfSome s.left (λ all. bytes ≡ all) → length bytes ≤ 2 ^ 26 → s.reads_now ≡ s.reads → output bytes text status → IsAnswer status
+    → IfSome s.left (λ all. bytes ≡ all) → IsAtEnd s.left_now → length bytes ≤ 2 ^ 26 → s.reads_now ≡ s.reads → output bytes text status → IsAnswer status
     → Prints s.written s.written_now s.writes s.writes_now text status answer → Ends output s answer
-ends-printed output s bytes text status answer whole within quiet says small (inl (e, appends, silent)) =
+ends-printed output s bytes text status answer whole done within quiet says small (inl (e, appends, silent)) =
     let answered : IsAnswer answer = subst (λ n. IsAnswer n) (sym e) small in
     let low = answer-small answer answered in
     record {
       known = inl answered;
       answered = λ _. IfSome_then s.left whole (λ all is. (text, subst (λ n. output all text n) (sym e) (subst (λ b. output b text status) is says), appends));
+      whole = λ _. done;
       within = λ _. IfSome_then s.left whole (λ all is. subst (λ b. length b ≤ 2 ^ 26) is within);
       no_read_failed = λ _. quiet;
       no_write_failed = λ _. silent;
@@ -46,11 +48,12 @@ ends-printed output s bytes text status answer whole within quiet says small (in
       told = IfSome_then s.left whole (λ all is large _. absurd (omega (arith, large, subst (λ b. length b ≤ 2 ^ 26) is within)));
       complete = IfSome_then s.left whole (λ all is _ _ _. inl answered);
     }
-ends-printed output s bytes text status answer whole within quiet says small (inr (five, rose, n, part, appends)) =
+ends-printed output s bytes text status answer whole done within quiet says small (inr (five, rose, n, part, appends)) =
     let none : IsAnswer answer → ⊥ = λ answered. omega (arith, five, answer-small answer answered) in
     record {
       known = inr (inr (inl five));
       answered = λ a. absurd (none a);
+      whole = λ a. absurd (none a);
       within = λ a. absurd (none a);
       no_read_failed = λ a. absurd (none a);
       no_write_failed = λ a. absurd (none a);

@@ -28,6 +28,7 @@ pub fn check_run<R: Threads + Sync, S: Source, K: Sink>(
     requires few_workers { workers ≤ 64 }
     ensures { Ends (IsCheckOutput cell) (record {
       left = S.left input.old;
+      left_now = S.left input.new;
       reads = S.faults input.old;
       reads_now = S.faults input.new;
       written = K.written out.old;

@@ -21,6 +21,7 @@ pub fn ljcr<R: Threads + Sync, S: Source, K: Sink>(
     // Words that call for a check end as that check ends.
     ensures good { (call : _) → GoodWords (texts words.now) call → Ends (IsCheckOutput call.cell) (record {
       left = S.left input.old;
+      left_now = S.left input.new;
       reads = S.faults input.old;
       reads_now = S.faults input.new;
       written = K.written out.old;
@@ -32,6 +33,7 @@ pub fn ljcr<R: Threads + Sync, S: Source, K: Sink>(
     // All other words end with the usage line.
     ensures bad { ((call : _) → GoodWords (texts words.now) call → ⊥) → EndsWithUsage (record {
       left = S.left input.old;
+      left_now = S.left input.new;
       reads = S.faults input.old;
       reads_now = S.faults input.new;
       written = K.written out.old;

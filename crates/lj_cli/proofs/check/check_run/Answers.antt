@@ -12,5 +12,5 @@ returns-in-Ok-put g c =
     let holds = subst (λ bytes. IsVerdict c.args.cell bytes verdict) c.deref.ensures.value c.in-Ok-verdict.ensures in
     let text = c.deref-in-Ok-put.ensures.value ∙ c.in-Ok-put.ensures ∙ ap (λ front. front ++ verdict_text verdict) c.new-text.ensures.items in
     ends-printed (IsCheckOutput c.args.cell) _ c.in-Ok.bytes.items c.deref-in-Ok-put.result.now c.status.result c.print.result
-    c.in-Ok.ensures.bytes c.in-Ok.ensures.within c.in-Ok.ensures.quiet (verdict, holds, text, c.status.ensures)
+    c.in-Ok.ensures.bytes c.in-Ok.ensures.whole c.in-Ok.ensures.within c.in-Ok.ensures.quiet (verdict, holds, text, c.status.ensures)
     (subst (λ n. IsAnswer n) (sym c.status.ensures) (status-answer verdict)) c.print.ensures
