@@ -1,7 +1,8 @@
 -- Lemmas on the lines of a text.
-use Rattle.std.proofs.Common.{Bor, MatchOption, None, Option, Some, unwrap_or, ◌≡◌, ℕ, suc, ◌+◌, ◌-◌, ◌<◌, ◌≤◌, Bool, true, false, eqb, List, [], ◌∷◌, length, take, drop, refl, sym, ap, ◌∙◌, arith, ⊎_elim, true≢false}
+use Rattle.std.proofs.Common.{Bor, MatchOption, None, Option, Some, unwrap_or, ◌≡◌, ℕ, suc, ◌+◌, ◌-◌, ◌<◌, ◌≤◌, min, Bool, true, false, eqb, List, [], ◌∷◌, length, take, drop, refl, sym, ap, ◌∙◌, arith, ⊎_elim, true≢false}
 use Rattle.std.proofs.lemmas.Bool.{and_cases, and_parts, cases_Bool, false_from_ne_true}
-use Rattle.std.proofs.lemmas.List.{length-take-le, take_all}
+use Rattle.std.proofs.Math.Nat.{min-eq_left, min-eq_right}
+use Rattle.std.proofs.lemmas.List.{length-drop, length-take-le, take_all}
 use Rattle.std.proofs.lemmas.List.Sums.{position_or_len_is}
 use Rattle.std.specs.Cmp.Lexicographic.{pointwise}
 use Rattle.std.specs.List.{position_or_len, before_first, after_first}
@@ -32,21 +33,49 @@ cut_lines-at [] n some is = absurd (omega arith)
 cut_lines-at (b ∷ bs) n some is = rw (← is) (cut_lines-cons b bs)
 
 -- where a search found the first LF
+pub first_feed-found : (bytes : List ℕ) (n : ℕ) → NoneBefore (Passes (is_byte 10) bytes) 0 (length bytes) n → Passes (is_byte 10) bytes n → position_or_len is_feed bytes ≡ n
+first_feed-found bytes n first at =
+    let inside : n < length bytes = first.high in
+    position_or_len_is is_feed bytes n 0 (omega arith) (λ k h. false_from_ne_true _ (first.before k (omega arith) h)) (λ _. at)
+
+-- where it found none
+pub first_feed-none : (bytes : List ℕ) → Nowhere (Passes (is_byte 10) bytes) 0 (length bytes) → position_or_len is_feed bytes ≡ length bytes
+first_feed-none bytes none =
+    position_or_len_is is_feed bytes (length bytes) 0 (omega arith) (λ k h. false_from_ne_true _ (none k (omega arith) h)) (λ h. absurd (omega arith))
+
+-- the place behind the first LF from a place on, where a search found it
+pub after_line-found : (bytes rest : List ℕ) (stop n : ℕ) → rest ≡ drop stop bytes → NoneBefore (Passes (is_byte 10) rest) 0 (length rest) n → Passes (is_byte 10) rest n → stop + n + 1 ≡ min (length bytes) (stop + position_or_len is_feed (drop stop bytes) + 1)
+after_line-found bytes rest stop n is first at =
+    let inside : n < length rest = first.high in
+    let count : length rest ≡ length bytes - stop = ap length is ∙ length-drop stop bytes in
+    let within : stop + n + 1 ≤ length bytes = omega arith in
+    rw (← is, first_feed-found rest n first at) (sym (min-eq_right within))
+
+-- the end of the text, where it found none
+pub after_line-none : (bytes rest : List ℕ) (stop : ℕ) → rest ≡ drop stop bytes → stop ≤ length bytes → Nowhere (Passes (is_byte 10) rest) 0 (length rest) → length bytes ≡ min (length bytes) (stop + position_or_len is_feed (drop stop bytes) + 1)
+after_line-none bytes rest stop is within none =
+    let count : length rest ≡ length bytes - stop = ap length is ∙ length-drop stop bytes in
+    let over : length bytes ≤ stop + length rest + 1 = omega arith in
+    rw (← is, first_feed-none rest none) (sym (min-eq_left over))
+
+-- what stands from a place on, as it is borrowed
+pub from_place : (bytes : List ℕ) (stop : ℕ) → take (length bytes - stop) (drop stop bytes) ≡ drop stop bytes
+from_place bytes stop =
+    let count : length (drop stop bytes) ≡ length bytes - stop = length-drop stop bytes in
+    take_all (length bytes - stop) (drop stop bytes) (omega arith)
+
+-- the first line, where a search found the first LF
 pub cut_lines-found : (bytes : List ℕ) (n : ℕ) → NoneBefore (Passes (is_byte 10) bytes) 0 (length bytes) n → Passes (is_byte 10) bytes n → cut_lines bytes ≡ take n bytes ∷ cut_lines (drop (length (take n bytes) + 1) bytes)
 cut_lines-found bytes n first at =
     let inside : n < length bytes = first.high in
-    let is : position_or_len is_feed bytes ≡ n =
-    position_or_len_is is_feed bytes n 0 (omega arith) (λ k h. false_from_ne_true _ (first.before k (omega arith) h)) (λ _. at) in
     let count : length (take n bytes) ≡ n = length-take-le n bytes (omega arith) in
-    rw count (cut_lines-at bytes n (omega arith) is)
+    rw count (cut_lines-at bytes n (omega arith) (first_feed-found bytes n first at))
 
--- where it found none
+-- where it found none, the text is one line
 pub cut_lines-single : (bytes : List ℕ) → 0 < length bytes → Nowhere (Passes (is_byte 10) bytes) 0 (length bytes) → cut_lines bytes ≡ bytes ∷ cut_lines (drop (length bytes + 1) bytes)
 cut_lines-single bytes some none =
-    let is : position_or_len is_feed bytes ≡ length bytes =
-    position_or_len_is is_feed bytes (length bytes) 0 (omega arith) (λ k h. false_from_ne_true _ (none k (omega arith) h)) (λ h. absurd (omega arith)) in
     let all : take (length bytes) bytes ≡ bytes = take_all (length bytes) bytes (omega arith) in
-    cut_lines-at bytes (length bytes) some is ∙ ap (λ l. l ∷ cut_lines (drop (length bytes + 1) bytes)) all
+    cut_lines-at bytes (length bytes) some (first_feed-none bytes none) ∙ ap (λ l. l ∷ cut_lines (drop (length bytes + 1) bytes)) all
 
 -- the last byte, alone
 abbrev last_byte : List ℕ → List ℕ

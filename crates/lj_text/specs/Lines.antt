@@ -1,7 +1,7 @@
 -- The lines of a text. A line ends at LF or at the end of the text, and one CR at its end is left off.
 -- A line of blanks alone is blank. The last LF begins no further line.
-use Rattle.std.specs.Prelude.{◌≡◌, ◌≢◌, ℕ, suc, ◌+◌, ◌≤◌, Bool, ◌||◌, ◌==◌, if◌then◌else◌, List, [], ◌∷◌, ◌++◌, length, slice_range, IsFalse}
-use Rattle.std.specs.List.{AllByRecursion, flat_map, list_all}
+use Rattle.std.specs.Prelude.{◌≡◌, ◌≢◌, ℕ, suc, ◌+◌, ◌≤◌, Bool, ◌||◌, ◌==◌, if◌then◌else◌, min, List, [], ◌∷◌, ◌++◌, drop, length, slice_range, IsFalse}
+use Rattle.std.specs.List.{AllByRecursion, flat_map, list_all, position_or_len}
 use Rattle.lj_text.specs.declared.lines.Line.{Line}
 
 -- a byte before the first of these lines
@@ -43,6 +43,10 @@ line_text bytes line = slice_range bytes line.start line.stop
 -- a line that stands within its text
 abbrev pub IsLineOf : List ℕ → Line → Type 0
 IsLineOf bytes line = (line.start ≤ line.stop) × (line.stop ≤ length bytes)
+
+-- the place behind the LF that ends a line, or behind the text where none does
+abbrev pub after_line : List ℕ → Line → ℕ
+after_line bytes line = min (length bytes) (line.stop + position_or_len (λ byte. byte == 10) (drop line.stop bytes) + 1)
 
 -- the bytes of a line that reads back as it was written: it is not blank, has no LF, and no CR at its end
 abbrev pub IsPlain : List ℕ → Type 0

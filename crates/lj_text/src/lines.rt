@@ -1,7 +1,7 @@
 ghost use Rattle.std.specs.Prelude.{◌≡◌, ◌+◌, ◌<◌, ◌≤◌, ◌∷◌, drop, length};
 ghost use Rattle.std.specs.Iterator.{YieldsFirst, item_count};
 ghost use Rattle.std.specs.List.{AllByRecursion, list_all};
-ghost use Rattle.lj_text.specs.Lines.{IsLineOf, cut_lines, is_blank, text_lines, without_return};
+ghost use Rattle.lj_text.specs.Lines.{IsLineOf, after_line, cut_lines, is_blank, text_lines, without_return};
 
 use memchr::memchr;
 use std::marker::Model;
@@ -72,6 +72,20 @@ impl<'a> Iterator for Lines<'a> {
             }
         }
         None
+    }
+}
+
+/// The place behind the LF that ends a line of the text, or behind the text where none does.
+pub fn after_line(bytes: &[u8], line: &Line) -> u64
+    requires inside { IsLineOf bytes.now line.now }
+    ensures place { result ≡ after_line bytes.now line.now }
+    ensures later { line.now.stop ≤ result }
+    ensures within { result ≤ length bytes.now }
+{
+    let stop = line.stop as usize;
+    match memchr(b'\n', &bytes[stop..]) {
+        Some(rest) => (stop + rest + 1) as u64,
+        None => bytes.len() as u64,
     }
 }
 
