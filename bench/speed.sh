@@ -1,6 +1,6 @@
 #!/bin/sh
-# Measures the check of the built program against the one written by hand: the best wall time of three runs, their
-# ratio, and the peak memory, with 1 and with 4 workers. It needs rustc and GNU time.
+# Measures the check of the built program against the one written by hand, with 1 and with 4 workers: the best and the
+# median wall time of ten runs each, taken in turn, the ratios of both, and the peak memory. It needs rustc and GNU time.
 # usage: speed.sh LJCR
 set -eu
 ljcr=$1
@@ -10,29 +10,37 @@ trap 'rm -rf "$work"' EXIT
 rustc -O -C target-cpu=x86-64-v2 -o "$work/marking" "$here/marking.rs"
 sh "$here/inputs.sh" "$work/marking" "$work/inputs"
 
-# measure OUTPUT COMMAND..: prints the best wall time in seconds and the peak memory in kilobytes
+# measure SIDE COMMAND..: appends the wall time in seconds and the peak memory in kilobytes to the times of that side
 measure() {
-    output=$1
+    side=$1
     shift
-    : > "$work/times"
-    for run in 1 2 3; do
-        # The status says whether the blocks cover.
-        /usr/bin/time -o "$work/time" -f '%e %M' "$@" < "$work/input" > "$output" 2> "$work/errors" || true
-        tail -n 1 "$work/time" >> "$work/times"
-    done
-    sort -n "$work/times" | head -n 1
+    # The status says whether the blocks cover.
+    /usr/bin/time -o "$work/time" -f '%e %M' "$@" < "$work/input" > "$work/output_$side" 2> "$work/errors" || true
+    tail -n 1 "$work/time" >> "$work/times_$side"
 }
 
-printf '%-28s %-8s %9s %9s %6s %10s %10s\n' input workers by_hand ljcr ratio by_hand_kB ljcr_kB
+# summary SIDE: prints the best time, the median time and the greatest peak of ten
+summary() {
+    sort -n "$work/times_$1" | awk '{ time[NR] = $1; if ($2 > peak) peak = $2 }
+        END { printf "%.2f %.2f %d", time[1], (time[5] + time[6]) / 2, peak }'
+}
+
+printf '%-26s %-7s %8s %8s %6s %8s %8s %6s %9s %9s\n' \
+    input workers by_hand ljcr ratio by_hand ljcr ratio by_hand ljcr
+printf '%-26s %-7s %8s %8s %6s %8s %8s %6s %9s %9s\n' '' '' best best best median median median kB kB
 while read -r name v k t; do
     cp "$work/inputs/$name" "$work/input"
     for workers in 1 4; do
-        by_hand=$(measure "$work/output_by_hand" "$work/marking" check "$v" "$k" "$t" "$workers")
-        proved=$(measure "$work/output_ljcr" "$ljcr" check "$v" "$k" "$t" --workers "$workers")
+        rm -f "$work"/times_*
+        for run in 1 2 3 4 5 6 7 8 9 10; do
+            measure by_hand "$work/marking" check "$v" "$k" "$t" "$workers"
+            measure ljcr "$ljcr" check "$v" "$k" "$t" --workers "$workers"
+        done
         cmp -s "$work/output_by_hand" "$work/output_ljcr" || echo "the answers differ at $name"
-        echo "$name $workers $by_hand $proved" | awk '{
-            ratio = $3 > 0 ? sprintf("%.2f", $5 / $3) : "-"
-            printf "%-28s %-8s %9s %9s %6s %10s %10s\n", $1, $2, $3, $5, ratio, $4, $6
+        echo "$name $workers $(summary by_hand) $(summary ljcr)" | awk '{
+            best = $3 > 0 ? sprintf("%.2f", $6 / $3) : "-"
+            median = $4 > 0 ? sprintf("%.2f", $7 / $4) : "-"
+            printf "%-26s %-7s %8s %8s %6s %8s %8s %6s %9s %9s\n", $1, $2, $3, $6, best, $4, $7, median, $5, $8
         }'
     done
 done <<INPUTS
