@@ -1,5 +1,6 @@
 -- What is known of a text when some of its lines were read.
-use Rattle.std.proofs.Common.{◌≡◌, ℕ, ◌≤◌, List, [], ◌∷◌, ◌++◌, None, Some, length, refl, sym, ap₂, ◌∙◌, subst, append_assoc, append-nil}
+use Rattle.std.proofs.Common.{◌≡◌, ℕ, arith, ◌≤◌, List, [], ◌∷◌, ◌++◌, None, Some, length, refl, sym, ap₂, ◌∙◌, subst, append_assoc, append-nil}
+use Rattle.std.proofs.lemmas.Slice.Zip.{AllZip-long}
 use Rattle.std.proofs.lemmas.Slice.Zip.{all_zipped_more}
 use Rattle.std.specs.List.{AllByRecursion, AllZip}
 use Rattle.lj_base.specs.Blocks.{AreBlocks}
@@ -41,6 +42,9 @@ pub AreBlocksOf-end : {body : List ℕ} {v k : ℕ} {bs : List (List ℕ)} → l
 AreBlocksOf-end {body} {v} {k} {bs} few r =
     let all : r.read ≡ text_lines body = sym (append-nil r.read) ∙ r.whole in
     record { few = few; lines = subst (λ lines. AllZip (λ line b. IsBlockLine (line_text body line) v k b) lines bs) all r.blocks }
+
+pub few_blocks : {body : List ℕ} {v k : ℕ} {bs : List (List ℕ)} → length (text_lines body) ≤ 100000 → AreReadSoFar body v k [] bs → length bs ≤ 100000
+few_blocks few r = let same = AllZip-long _ _ _ (AreBlocksOf-end few r).lines in omega arith
 
 pub AreBlocks-from_lines : (body : List ℕ) (v k : ℕ) (lines : List Line) (bs : List (List ℕ)) → AllZip (λ line b. IsBlockLine (line_text body line) v k b) lines bs → AreBlocks v k bs
 AreBlocks-from_lines body v k [] [] h = tt

@@ -1,13 +1,17 @@
 -- The text of the lines of blocks reads back.
-use Rattle.std.proofs.Common.{◌≡◌, ℕ, suc, ◌^◌, ◌<◌, ◌≤◌, List, [], ◌∷◌, Some, decimal, length, map, refl, sym, ap, ◌∙◌, subst, arith}
-use Rattle.std.proofs.lemmas.List.{length-map}
+use Rattle.std.proofs.Common.{◌≡◌, ℕ, suc, ◌+◌, ◌-◌, ◌^◌, ◌<◌, ◌≤◌, List, [], ◌∷◌, ◌++◌, Some, append_assoc, decimal, drop, length, length-append, map, refl, sym, ap, ◌∙◌, subst, arith}
+use Rattle.std.proofs.Math.Nat.{min-eq_right}
+use Rattle.std.proofs.lemmas.List.{drop_at, length-map, take_at}
 use Rattle.std.specs.List.{AllByRecursion, AllZip}
 use Rattle.lj_base.specs.Blocks.{AreBlocks, Ascends, IsBlock}
-use Rattle.lj_text.specs.Lines.{IsPlain, line_text, text_lines, with_feeds}
+use Rattle.lj_base.specs.Cells.{IsCell, Triple}
+use Rattle.lj_text.specs.Lines.{IsPlain, after_line, cut_lines, line_text, lines_from, text_lines, with_feeds}
+use Rattle.lj_text.specs.declared.lines.Line.{Line}
 use Rattle.lj_text.specs.Numbers.{number_of}
 use Rattle.lj_text.specs.Tokens.{IsWord, join_by_space, token_text, tokens_of}
 use Rattle.lj_blockfile.specs.BlockFiles.{AreBlocksOf, blocks_text}
 use Rattle.lj_blockfile.specs.BlockLines.{IsBlockLine, block_line}
+use Rattle.lj_blockfile.specs.Headers.{IsHeader, file_text, header_line}
 use Rattle.lj_blockfile.proofs.Writing.{IsBlockLine-block_line}
 
 -- the points from 1 as numbers of the line
@@ -56,3 +60,64 @@ module _ (word : (n : ℕ) → n < 2 ^ 64 → IsWord (decimal n)) (value : (n : 
           few = omega arith;
           lines = AllZip-from_map (line_text text) block_line (IsBlock v k) (λ line b. IsBlockLine line v k b) each (text_lines text) bs same h;
         }
+
+    -- ---- the text of a file with a header
+
+    module _ (first : (line rest : List ℕ) → IsPlain line → text_lines (line ++ 10 ∷ rest) ≡ record { number = 1; start = 0; stop = length line } ∷ lines_from 2 (length line + 1) (cut_lines rest))
+        (c : Triple) (bs : List (List ℕ)) (cell : IsCell c) (some : 1 ≤ c.k) (few : length bs ≤ 100000)
+      where
+        abbrev header_numbers : List ℕ
+        header_numbers = c.v ∷ c.k ∷ c.t ∷ length bs ∷ []
+
+        abbrev line : List ℕ
+        line = header_line c (length bs)
+
+        small : AllByRecursion (λ n. n < 2 ^ 64) header_numbers
+        small = (omega (arith, cell), (omega (arith, cell), (omega (arith, cell), (omega (arith, few), tt))))
+
+        header_tokens : map (token_text line) (tokens_of line) ≡ map decimal header_numbers
+        header_tokens = words (map decimal header_numbers) (word c.v small.0, (word c.k small.1.0, (word c.t small.1.1.0, (word (length bs) small.1.1.1.0, tt))))
+
+        header_spelled : AllZip (λ token n. number_of (token_text line token) ≡ Some n) (tokens_of line) header_numbers
+        header_spelled =
+            AllZip-from_map (token_text line) decimal (λ n. n < 10 ^ 18) (λ text n. number_of text ≡ Some n) value (tokens_of line) header_numbers header_tokens
+            (omega (arith, cell), (omega (arith, cell), (omega (arith, cell), (omega (arith, few), tt))))
+
+        whole : file_text c bs ≡ (line ++ 10 ∷ []) ++ blocks_text bs
+        whole = sym (append_assoc line (10 ∷ []) (blocks_text bs))
+
+        count : length (line ++ 10 ∷ []) ≡ length line + 1
+        count = length-append line (10 ∷ [])
+
+        abbrev begins : Line
+        begins = record { number = 1; start = 0; stop = length line }
+
+        first_text : line_text (file_text c bs) begins ≡ line
+        first_text = let long : length line - 0 ≡ length line = omega arith in rw long (take_at line (10 ∷ blocks_text bs) (length line) refl)
+
+        behind_first : length line + 1 ≡ after_line (file_text c bs) begins
+        behind_first =
+            let rest = 10 ∷ blocks_text bs in
+            let cut : drop (length line) (file_text c bs) ≡ rest = drop_at line rest (length line) refl in
+            let long : length (file_text c bs) ≡ length line + length rest = length-append line rest in
+            let within : length line + 0 + 1 ≤ length (file_text c bs) = omega arith in
+            let place : length line + 0 + 1 ≡ length line + 1 = omega arith in
+            rw cut (sym (min-eq_right within ∙ place))
+
+        pub IsHeader-file_text : IsHeader (file_text c bs) (record { cell = c; n = length bs; line = 1; rest = length line + 1 })
+        IsHeader-file_text =
+            record {
+              first = begins;
+              others = lines_from 2 (length line + 1) (cut_lines (blocks_text bs));
+              lines = first line (blocks_text bs) (numbers header_numbers (omega arith) small);
+              spelled = subst (λ text. AllZip (λ token n. number_of (token_text text token) ≡ Some n) (tokens_of text) header_numbers) (sym first_text) header_spelled;
+              in_limits = cell;
+              some = some;
+              line_is = refl;
+              rest_is = behind_first;
+            }
+
+        pub AreBlocksOf-file_text : AreBlocks c.v c.k bs → AreBlocksOf (drop (length line + 1) (file_text c bs)) c.v c.k bs
+        AreBlocksOf-file_text blocks =
+            let rest : drop (length line + 1) (file_text c bs) ≡ blocks_text bs = ap (drop (length line + 1)) whole ∙ drop_at (line ++ 10 ∷ []) (blocks_text bs) (length line + 1) count in
+            subst (λ text. AreBlocksOf text c.v c.k bs) (sym rest) (AreBlocksOf-blocks_text c.v c.k bs some (omega (arith, cell)) few blocks)

@@ -2,11 +2,13 @@
 #![tactic(auto)]
 
 mod faults;
+mod headers;
 mod laws;
 mod read;
 mod write;
 
 pub use faults::{BodyFault, LineFault};
-pub use laws::written_law;
+pub use headers::{Header, NoHeader, read_header, write_file};
+pub use laws::{file_law, written_law};
 pub use read::{read_block, read_blocks};
 pub use write::write_block;

@@ -1,6 +1,7 @@
 ghost use Rattle.std.specs.Prelude.{◌≡◌, ℕ, suc, ◌<◌, ◌≤◌, IfErr, IfOk, IfSome, List, MatchResult, None, OnOk, Some, length, map};
 ghost use Rattle.std.specs.Result.{result_err};
 ghost use Rattle.lj_base.specs.Blocks.{AreBlocks};
+ghost use Rattle.lj_text.specs.Lines.{text_lines};
 ghost use Rattle.lj_text.specs.Numbers.{number_of};
 ghost use Rattle.lj_text.specs.Tokens.{IsTokenOf, token_text};
 ghost use Rattle.lj_blockfile.specs.BlockFiles.{AreBlocksOf, IsBodyFault};
@@ -74,12 +75,13 @@ pub fn read_blocks(alloc: Global, body: &[u8], v: u64, k: u64) -> Result<Vec<Blo
     requires below { v ≤ 99 }
     ensures blocks { IfOk result (λ blocks. AreBlocksOf body.now v k blocks.items) }
     ensures shape { IfOk result (λ blocks. AreBlocks v k blocks.items) }
+    ensures few { IfOk result (λ blocks. length blocks.items ≤ 100000) }
     ensures fault { IfErr result (IsBodyFault body.now v k) }
 
     // Where it holds blocks, only memory can be wanting.
     ensures complete { (bs : List (List ℕ)) → AreBlocksOf body.now v k bs → MatchResult result (λ blocks. blocks.items ≡ bs) (λ fault. fault ≡ BodyFault.Memory) }
 {
-    let lines = Lines::of(body).count() as u64;
+    let lines = line_count(body);
     if lines > MAX_BLOCKS {
         return Err(BodyFault::Blocks { n: lines });
     }
@@ -102,4 +104,11 @@ pub fn read_blocks(alloc: Global, body: &[u8], v: u64, k: u64) -> Result<Vec<Blo
         }
     }
     Ok(blocks)
+}
+
+// How many lines are not blank.
+fn line_count(body: &[u8]) -> u64
+    ensures { result ≡ length (text_lines body.now) }
+{
+    Lines::of(body).count() as u64
 }

@@ -107,6 +107,14 @@ texts-feeds (line ∷ lines) front bytes number is h =
 pub text_lines-feeds : (lines : List (List ℕ)) → AllByRecursion IsPlain lines → map (line_text (with_feeds lines)) (text_lines (with_feeds lines)) ≡ lines
 text_lines-feeds lines h = texts-feeds lines [] (with_feeds lines) 1 refl h
 
+-- a plain line before LF is the first line
+pub text_lines-first : (line rest : List ℕ) → IsPlain line → text_lines (line ++ 10 ∷ rest) ≡ record { number = 1; start = 0; stop = length line } ∷ lines_from 2 (length line + 1) (cut_lines rest)
+text_lines-first line rest h =
+    let not_blank : list_all is_blank line ≡ false = h.0 in
+    let same : without_return line ≡ line = h.2 in
+    let count : 0 + length line ≡ length line = omega arith in
+    ap (lines_from 1 0) (cut_lines-feed line rest h.1) ∙ rw (same, not_blank, count) refl
+
 -- ---- numbers that are joined by spaces are a plain line
 
 kept_without : (line : List ℕ) → AllByRecursion (λ byte. byte ≢ 13) line → without_return line ≡ line

@@ -1,6 +1,6 @@
-ghost use Rattle.std.specs.Prelude.{◌≡◌, ◌^◌, ◌<◌, ◌≤◌, ℕ, List, Some, decimal, length, map};
+ghost use Rattle.std.specs.Prelude.{◌≡◌, ◌+◌, ◌^◌, ◌<◌, ◌≤◌, ℕ, List, ◌∷◌, ◌++◌, Some, decimal, length, map};
 ghost use Rattle.std.specs.List.{AllByRecursion};
-ghost use Rattle.lj_text.specs.Lines.{IsLineOf, IsPlain, line_text, text_lines, with_feeds};
+ghost use Rattle.lj_text.specs.Lines.{IsLineOf, IsPlain, cut_lines, line_text, lines_from, text_lines, with_feeds};
 ghost use Rattle.lj_text.specs.Numbers.{number_of};
 ghost use Rattle.lj_text.specs.Tokens.{IsTokenOf, IsWord, join_by_space, token_text, tokens_of};
 
@@ -18,11 +18,13 @@ pub fn tokens_law()
 {}
 
 /// Lines stand within their text. Plain lines with LF behind each are the lines of the text that they make, in order.
-/// Numbers that are joined by spaces are a plain line.
+/// Numbers that are joined by spaces are a plain line. A plain line before LF is the first, and the others are those of what follows.
 pub fn lines_law()
     ensures inside { (bytes : List ℕ) → AllByRecursion (IsLineOf bytes) (text_lines bytes) }
     ensures plain { (lines : List (List ℕ)) → AllByRecursion IsPlain lines →
         (let bytes = with_feeds lines in map (line_text bytes) (text_lines bytes) ≡ lines) }
     ensures numbers { (ns : List ℕ) → 1 ≤ length ns → AllByRecursion (λ n. n < 2 ^ 64) ns →
         IsPlain (join_by_space (map decimal ns)) }
+    ensures first { (line rest : List ℕ) → IsPlain line →
+        text_lines (line ++ 10 ∷ rest) ≡ record { number = 1; start = 0; stop = length line } ∷ lines_from 2 (length line + 1) (cut_lines rest) }
 {}

@@ -1,4 +1,6 @@
-use Rattle.lj_blockfile.proofs.Bodies.{AreBlocks-from_lines, AreBlocksOf-end, AreReadSoFar-step, IsFirstFaulty-here, not_faulty, same_blocks, with_left}
+use Rattle.std.proofs.Common.{◌≤◌, arith, length}
+use Rattle.lj_text.specs.Lines.{text_lines}
+use Rattle.lj_blockfile.proofs.Bodies.{AreBlocks-from_lines, AreBlocksOf-end, AreReadSoFar-step, IsFirstFaulty-here, few_blocks, not_faulty, same_blocks, with_left}
 use Rattle.lj_blockfile.proofs.read.read_blocks.Goals as goal
 
 pub loop-line-preserved : goal.loop-line-preserved
@@ -17,3 +19,8 @@ returns-in-Err-clause-complete c = λ bs h.
 
 pub returns-clause-complete : goal.returns-clause-complete
 returns-clause-complete c = λ bs h. same_blocks (AreBlocksOf-end h.few (with_left c.in-None.ensures.steps.0 c.loop-line.invariant)) h
+
+pub returns-clause-few : goal.returns-clause-few
+returns-clause-few c =
+    let few : length (text_lines c.args.body.now) ≤ 100000 = omega (arith, c.line_count-lines.ensures, c.if-lines-gt-MAX_BLOCKS.false) in
+    few_blocks few (with_left c.in-None.ensures.steps.0 c.loop-line.invariant)
