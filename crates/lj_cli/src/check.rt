@@ -46,9 +46,8 @@ pub fn check_run<R: Threads + Sync, S: Source, K: Sink>(
     let Ok(verdict) = verdict(rt, alloc, cell, workers, &bytes) else {
         return NO_MEMORY;
     };
-    let mut text = Vec::new(alloc);
-    match verdict.put(&mut text) {
-        Ok(()) => print(out, &text, verdict.status()),
+    match verdict.text(alloc) {
+        Ok(text) => print(out, &text, verdict.status()),
         Err(Memory) => NO_MEMORY,
     }
 }

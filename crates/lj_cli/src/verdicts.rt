@@ -1,4 +1,4 @@
-ghost use Rattle.std.specs.Prelude.{◌≡◌, ◌++◌, decimal, OnOk};
+ghost use Rattle.std.specs.Prelude.{◌≡◌, ◌++◌, decimal, IfOk, OnOk};
 ghost use Rattle.lj_cli.specs.Verdicts.{body_fault_text, line_fault_text, refusal_text, set_text, verdict_status, verdict_text};
 
 use lj_base::Memory;
@@ -6,6 +6,7 @@ use lj_blockfile::{BodyFault, LineFault};
 use lj_rank::TSet;
 use lj_text::{put, put_number};
 use lj_verify::Refusal;
+use std::alloc::Global;
 
 /// What a check says of its input.
 #[derive(Clone, Copy, Debug, PartialEq, Eq)]
@@ -32,19 +33,21 @@ impl Verdict {
         }
     }
 
-    /// Appends its line. After an error a part of it may have been appended.
-    pub fn put(&self, out: &mut Vec<u8>) -> Result<(), Memory>
-        ensures { OnOk result (out.new.items ≡ out.old.items ++ verdict_text self.now) }
+    /// Its line.
+    pub fn text(&self, alloc: Global) -> Result<Vec<u8>, Memory>
+        ensures { IfOk result (λ text. text.items ≡ verdict_text self.now) }
     {
+        let mut text = Vec::new(alloc);
         match self {
             Verdict::Fault { fault } => {
-                put(out, b"fault ")?;
-                put_body_fault(out, fault)?;
+                put(&mut text, b"fault ")?;
+                put_body_fault(&mut text, fault)?;
             }
-            Verdict::Refused { refusal } => put_refusal(out, refusal)?,
-            Verdict::Covered { blocks } => put_counted(out, b"covers ", *blocks)?,
+            Verdict::Refused { refusal } => put_refusal(&mut text, refusal)?,
+            Verdict::Covered { blocks } => put_counted(&mut text, b"covers ", *blocks)?,
         }
-        put(out, b"\n")
+        put(&mut text, b"\n")?;
+        Ok(text)
     }
 }
 
