@@ -3,7 +3,7 @@ use Rattle.std.proofs.Common.{◌≡◌, ℕ, suc, ◌+◌, ◌-◌, ◌<◌, �
 use Rattle.std.proofs.lemmas.Bool.{and_left, cases_Bool}
 use Rattle.std.proofs.lemmas.List.{drop_at, take_at}
 use Rattle.std.specs.List.{AllByRecursion, list_all}
-use Rattle.lj_text.specs.Lines.{IsLineOf, IsPlain, cut_lines, is_blank, line_text, lines_from, onto, text_lines, with_feeds, without_return}
+use Rattle.lj_text.specs.Lines.{IsLineOf, IsPlain, cut_lines, is_blank, line_text, lines_from, onto, placed_from, text_lines, with_feeds, without_return}
 use Rattle.lj_text.specs.Tokens.{IsWord, join_by_space}
 use Rattle.lj_text.proofs.Spelling.{IsWord-decimal, high-decimal}
 
@@ -106,6 +106,20 @@ texts-feeds (line ∷ lines) front bytes number is h =
 
 pub text_lines-feeds : (lines : List (List ℕ)) → AllByRecursion IsPlain lines → map (line_text (with_feeds lines)) (text_lines (with_feeds lines)) ≡ lines
 text_lines-feeds lines h = texts-feeds lines [] (with_feeds lines) 1 refl h
+
+-- the lines stand one behind the other
+lines_from-feeds : (lines : List (List ℕ)) (number start : ℕ) → AllByRecursion IsPlain lines → lines_from number start (cut_lines (with_feeds lines)) ≡ placed_from number start lines
+lines_from-feeds [] number start h = refl
+lines_from-feeds (line ∷ lines) number start h =
+    let whole : (line ++ 10 ∷ []) ++ with_feeds lines ≡ line ++ (10 ∷ with_feeds lines) = append_assoc line (10 ∷ []) (with_feeds lines) in
+    let cut : cut_lines ((line ++ 10 ∷ []) ++ with_feeds lines) ≡ line ∷ cut_lines (with_feeds lines) = ap cut_lines whole ∙ cut_lines-feed line (with_feeds lines) h.0.1 in
+    let not_blank : list_all is_blank line ≡ false = h.0.0 in
+    let same : without_return line ≡ line = h.0.2 in
+    let more = lines_from-feeds lines (suc number) (start + length line + 1) h.1 in
+    ap (lines_from number start) cut ∙ rw (same, not_blank) (ap (λ l. record { number = number; start = start; stop = start + length line } ∷ l) more)
+
+pub text_lines-placed : (lines : List (List ℕ)) → AllByRecursion IsPlain lines → text_lines (with_feeds lines) ≡ placed_from 1 0 lines
+text_lines-placed lines h = lines_from-feeds lines 1 0 h
 
 -- a plain line before LF is the first line
 pub text_lines-first : (line rest : List ℕ) → IsPlain line → text_lines (line ++ 10 ∷ rest) ≡ record { number = 1; start = 0; stop = length line } ∷ lines_from 2 (length line + 1) (cut_lines rest)

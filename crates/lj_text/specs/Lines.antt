@@ -55,3 +55,9 @@ IsPlain text = IsFalse (list_all is_blank text) × AllByRecursion (λ byte. byte
 -- the lines with LF behind each
 abbrev pub with_feeds : List (List ℕ) → List ℕ
 with_feeds lines = flat_map (λ line. line ++ 10 ∷ []) lines
+
+-- where lines stand that follow each other with a byte behind each; the first is line `number` and begins at `start`
+abbrev pub placed_from : ℕ → ℕ → List (List ℕ) → List Line
+placed_from number start [] = []
+placed_from number start (line ∷ lines) =
+    record { number = number; start = start; stop = start + length line } ∷ placed_from (suc number) (start + length line + 1) lines

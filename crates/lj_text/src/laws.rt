@@ -1,6 +1,6 @@
 ghost use Rattle.std.specs.Prelude.{◌≡◌, ◌+◌, ◌^◌, ◌<◌, ◌≤◌, ℕ, List, ◌∷◌, ◌++◌, Some, decimal, length, map};
 ghost use Rattle.std.specs.List.{AllByRecursion};
-ghost use Rattle.lj_text.specs.Lines.{IsLineOf, IsPlain, cut_lines, line_text, lines_from, text_lines, with_feeds};
+ghost use Rattle.lj_text.specs.Lines.{IsLineOf, IsPlain, cut_lines, line_text, lines_from, placed_from, text_lines, with_feeds};
 ghost use Rattle.lj_text.specs.Numbers.{number_of};
 ghost use Rattle.lj_text.specs.Tokens.{IsTokenOf, IsWord, join_by_space, token_text, tokens_of};
 
@@ -23,6 +23,7 @@ pub fn lines_law()
     ensures inside { (bytes : List ℕ) → AllByRecursion (IsLineOf bytes) (text_lines bytes) }
     ensures plain { (lines : List (List ℕ)) → AllByRecursion IsPlain lines →
         (let bytes = with_feeds lines in map (line_text bytes) (text_lines bytes) ≡ lines) }
+    ensures places { (lines : List (List ℕ)) → AllByRecursion IsPlain lines → text_lines (with_feeds lines) ≡ placed_from 1 0 lines }
     ensures numbers { (ns : List ℕ) → 1 ≤ length ns → AllByRecursion (λ n. n < 2 ^ 64) ns →
         IsPlain (join_by_space (map decimal ns)) }
     ensures first { (line rest : List ℕ) → IsPlain line →

@@ -1,5 +1,5 @@
-use Rattle.lj_text.proofs.LineLaws.{IsLineOf-text_lines, IsPlain-numbers, text_lines-feeds, text_lines-first}
+use Rattle.lj_text.proofs.LineLaws.{IsLineOf-text_lines, IsPlain-numbers, text_lines-feeds, text_lines-first, text_lines-placed}
 use Rattle.lj_text.proofs.laws.lines_law.Goals as goal
 
 pub returns : goal.returns
-returns c = record { inside = IsLineOf-text_lines; plain = text_lines-feeds; numbers = IsPlain-numbers; first = text_lines-first }
+returns c = record { inside = IsLineOf-text_lines; plain = text_lines-feeds; places = text_lines-placed; numbers = IsPlain-numbers; first = text_lines-first }
