@@ -1,4 +1,4 @@
-ghost use Rattle.std.specs.Prelude.{◌≡◌, ◌^◌, ◌<◌, ◌≤◌, IfOk, length};
+ghost use Rattle.std.specs.Prelude.{◌≡◌, ◌^◌, ◌<◌, ◌≤◌, [], ◌∷◌, IfOk, length};
 ghost use Rattle.lj_cover.specs.Instances.{cut_counts};
 ghost use Rattle.lj_upload.specs.Degrees.{IsLeastDegree, IsLeastPair};
 ghost use Rattle.lj_upload.specs.Uploads.{IsAccepted};
@@ -109,5 +109,47 @@ impl Accepted {
         ensures { result ≡ cut_counts w self.now.blocks }
     {
         self.summary.counts[w as usize]
+    }
+}
+
+#[cfg(test)]
+mod tests {
+    use super::*;
+    use lj_base::{Block, Cell};
+    use lj_cover::laws;
+
+    // The block of two points, the lesser first.
+    fn pair(first: u8, second: u8) -> Block
+        requires order { first < second }
+        requires few { second < 99 }
+        ensures { result ≡ first ∷ second ∷ [] }
+    {
+        let mut block = Block::empty();
+        block.push(first);
+        block.push(second);
+        block
+    }
+
+    #[test]
+    fn all_pairs_of_three_points_are_summed_up(rt: HostRuntime) -> Result<(), Memory> {
+        let alloc = rt.alloc();
+        laws::all_cover();
+        let blocks = vec![in alloc; pair(0, 1), pair(0, 2), pair(1, 2)]?;
+        let design = Design::of(Cell { v: 3, k: 2, t: 2 }, blocks);
+        let name = Name::of(b"ann").expect(&rt, "a name");
+        let upload = Accepted::new(alloc, name, 7, design)?;
+        assert_eq!(rt; upload.least(), (0, 2));
+        assert_eq!(rt; upload.least_pair(), (0, 1, 1));
+        let counts = upload.counts(2);
+        assert!(rt; &counts[..4] == [0, 2, 1, 0].as_slice());
+        let again = upload.copy(alloc)?;
+        assert!(rt; again.client().bytes() == b"ann".as_slice());
+        assert_eq!(rt; again.ordinal(), 7);
+        assert_eq!(rt; again.design().cell(), Cell { v: 3, k: 2, t: 2 });
+        assert_eq!(rt; again.design().blocks().len(), 3);
+        assert_eq!(rt; again.least(), (0, 2));
+        assert_eq!(rt; again.least_pair(), (0, 1, 1));
+        assert_eq!(rt; again.counts(2), counts);
+        Ok(())
     }
 }

@@ -50,10 +50,10 @@ fn least_behind(row: &[u32; 99], x: u8, v: u8) -> (u8, u64)
     let mut second = x + 1;
     let mut least = row[second as usize];
     for y in x + 2..v {
-        let degree = row[y as usize];
-        if degree < least {
+        let together = row[y as usize];
+        if together < least {
             second = y;
-            least = degree;
+            least = together;
         }
     }
     (second, u64::from(least))
