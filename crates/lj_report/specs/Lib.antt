@@ -1,0 +1,3 @@
+pub mod ReportCells
+pub mod Reports
+pub mod ReportValues
