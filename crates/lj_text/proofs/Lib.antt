@@ -4,3 +4,4 @@ pub mod Sending
 pub mod Spelling
 pub mod Splitting
 pub mod TokenLaws
+pub mod LineOrder

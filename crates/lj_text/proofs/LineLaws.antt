@@ -27,7 +27,7 @@ EndBy-cut_lines (b ∷ bs) start n inside =
     (λ (h : eqb b 10 ≡ false). rw h (EndBy-onto b start (cut_lines bs) n (omega arith) rest))
     (cases_Bool (eqb b 10))
 
-length-without_return : (line : List ℕ) → length (without_return line) ≤ length line
+pub length-without_return : (line : List ℕ) → length (without_return line) ≤ length line
 length-without_return [] = omega arith
 length-without_return (b ∷ []) =
     ⊎_elim (λ (h : eqb b 13 ≡ true). rw h (omega arith)) (λ (h : eqb b 13 ≡ false). rw h (omega arith)) (cases_Bool (eqb b 13))

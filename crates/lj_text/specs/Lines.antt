@@ -61,3 +61,8 @@ abbrev pub placed_from : ℕ → ℕ → List (List ℕ) → List Line
 placed_from number start [] = []
 placed_from number start (line ∷ lines) =
     record { number = number; start = start; stop = start + length line } ∷ placed_from (suc number) (start + length line + 1) lines
+
+-- from a place on, the lines stand in the text, each behind the one before
+abbrev pub StandFrom : List ℕ → ℕ → List Line → Type 0
+StandFrom bytes place [] = Unit {0}
+StandFrom bytes place (line ∷ lines) = (place ≤ line.start) × IsLineOf bytes line × StandFrom bytes (after_line bytes line) lines

@@ -1,6 +1,6 @@
 ghost use Rattle.std.specs.Prelude.{◌≡◌, ◌+◌, ◌^◌, ◌<◌, ◌≤◌, ℕ, List, ◌∷◌, ◌++◌, Some, decimal, length, map};
 ghost use Rattle.std.specs.List.{AllByRecursion};
-ghost use Rattle.lj_text.specs.Lines.{IsLineOf, IsPlain, cut_lines, line_text, lines_from, placed_from, text_lines, with_feeds};
+ghost use Rattle.lj_text.specs.Lines.{IsLineOf, IsPlain, StandFrom, cut_lines, line_text, lines_from, placed_from, text_lines, with_feeds};
 ghost use Rattle.lj_text.specs.Numbers.{number_of};
 ghost use Rattle.lj_text.specs.Tokens.{IsTokenOf, IsWord, join_by_space, token_text, tokens_of};
 
@@ -17,10 +17,11 @@ pub fn tokens_law()
         (let line = join_by_space words in map (token_text line) (tokens_of line) ≡ words) }
 {}
 
-/// Lines stand within their text. Plain lines with LF behind each are the lines of the text that they make, in order.
+/// Lines stand within their text, each behind the one before. Plain lines with LF behind each are the lines of the text that they make, in order.
 /// Numbers that are joined by spaces are a plain line. A plain line before LF is the first, and the others are those of what follows.
 pub fn lines_law()
     ensures inside { (bytes : List ℕ) → AllByRecursion (IsLineOf bytes) (text_lines bytes) }
+    ensures order { (bytes : List ℕ) → StandFrom bytes 0 (text_lines bytes) }
     ensures plain { (lines : List (List ℕ)) → AllByRecursion IsPlain lines →
         (let bytes = with_feeds lines in map (line_text bytes) (text_lines bytes) ≡ lines) }
     ensures places { (lines : List (List ℕ)) → AllByRecursion IsPlain lines → text_lines (with_feeds lines) ≡ placed_from 1 0 lines }

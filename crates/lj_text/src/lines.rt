@@ -1,7 +1,7 @@
 ghost use Rattle.std.specs.Prelude.{◌≡◌, ◌+◌, ◌<◌, ◌≤◌, ◌∷◌, drop, length};
 ghost use Rattle.std.specs.Iterator.{YieldsFirst, item_count};
 ghost use Rattle.std.specs.List.{AllByRecursion, list_all};
-ghost use Rattle.lj_text.specs.Lines.{IsLineOf, after_line, cut_lines, is_blank, text_lines, without_return};
+ghost use Rattle.lj_text.specs.Lines.{IsLineOf, StandFrom, after_line, cut_lines, is_blank, text_lines, without_return};
 
 use memchr::memchr;
 use std::marker::Model;
@@ -39,6 +39,7 @@ impl<'a> Lines<'a> {
     pub fn of(bytes: &'a [u8]) -> Lines<'a>
         ensures walk { result ≡ text_lines bytes.now }
         ensures inside { AllByRecursion (IsLineOf bytes.now) result }
+        ensures order { StandFrom bytes.now 0 result }
         ensures len { length result ≤ length bytes.now }
     {
         Lines {
