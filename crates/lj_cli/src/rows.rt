@@ -156,6 +156,8 @@ fn words_are_good_or_end_with_the_usage_line(rt: HostRuntime) -> Result<(), Fail
         "check 5 3 2 --json",
         "check 5 3 2 -w",
         "check -- 5 3 2 --workers 1",
+        "check --workers -- 5 3 2",
+        "check -- -- 5 3 2",
     ];
     for line in bad {
         let (status, sink) = run(&rt, rt.alloc(), line, FOUR)?;

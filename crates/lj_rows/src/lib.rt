@@ -1,4 +1,4 @@
-//! Tests that cross crates: worked values from outside.
+//! Tests that cross crates: worked values of streams, texts, ranks, maps and block files.
 #![tactic(auto)]
 
 #[cfg(test)]
@@ -7,12 +7,6 @@ mod base_rows;
 mod bitmap_rows;
 #[cfg(test)]
 mod blockfile_rows;
-#[cfg(test)]
-mod check_rows;
-#[cfg(test)]
-mod cover_plain;
-#[cfg(test)]
-mod cover_rows;
 #[cfg(test)]
 mod rank_rows;
 #[cfg(test)]

@@ -3,8 +3,8 @@ ghost use Rattle.lj_cover.specs.Derivations.{IsDerivation, tree_cost, expand};
 ghost use Rattle.lj_cover.specs.Instances.{cut_counts, row_price, rows_at};
 ghost use Rattle.lj_cover.specs.Lower.{schonheim};
 ghost use Rattle.lj_cover.specs.Rules.{triple};
-ghost use Rattle.lj_rows.specs.CoverExamples.{five_fives, induced_example, interval_example, product_example, runs_example, three_fours, two_points_example};
-ghost use Rattle.lj_rows.specs.CoverTests.{ascends, covers};
+ghost use Rattle.lj_rows_cover.specs.CoverExamples.{five_fives, induced_example, interval_example, product_example, runs_example, three_fours, two_points_example};
+ghost use Rattle.lj_rows_cover.specs.CoverTests.{ascends, covers};
 
 use crate::cover_plain;
 use lj_base::{Block, Cell, Memory};

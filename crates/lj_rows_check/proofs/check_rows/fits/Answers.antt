@@ -5,7 +5,7 @@ use Rattle.lj_base.specs.Blocks.{Ascends, IsBlock}
 use Rattle.lj_base.specs.Cells.{Triple}
 use Rattle.lj_rank.proofs.Ascending.{Ascends-push}
 use Rattle.lj_rank.proofs.Places.{Ascends-before, take-by_last}
-use Rattle.lj_rows.proofs.check_rows.fits.Goals as goal
+use Rattle.lj_rows_check.proofs.check_rows.fits.Goals as goal
 
 none : (v k : ℕ) (b : List ℕ) → length b ≡ k → k ≡ 0 → IsBlock v k b
 none v k [] count empty = (tt, count)

@@ -7,7 +7,7 @@ use Rattle.lj_base.specs.Cells.{Triple}
 use Rattle.lj_base.specs.Colex.{sets}
 use Rattle.lj_cover.specs.Rules.{triple}
 use Rattle.lj_cover.proofs.Cutting.{Has-from_test}
-use Rattle.lj_rows.specs.CoverTests.{ascends, contains, covers}
+use Rattle.lj_rows_cover.specs.CoverTests.{ascends, contains, covers}
 
 Ascends-from_test : (lo v : ℕ) (b : List ℕ) → ascends lo v b ≡ true → Ascends lo v b
 Ascends-from_test lo v [] h = tt

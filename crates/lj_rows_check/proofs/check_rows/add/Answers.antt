@@ -1,6 +1,6 @@
 use Rattle.std.proofs.Common.{ℕ, List, [], ◌∷◌, ◌++◌, sym, subst}
 use Rattle.lj_base.specs.Blocks.{AreBlocks, IsBlock}
-use Rattle.lj_rows.proofs.check_rows.add.Goals as goal
+use Rattle.lj_rows_check.proofs.check_rows.add.Goals as goal
 
 AreBlocks-push : (v k : ℕ) (bs : List (List ℕ)) (b : List ℕ) → AreBlocks v k bs → IsBlock v k b → AreBlocks v k (bs ++ b ∷ [])
 AreBlocks-push v k [] b h g = (g, tt)

@@ -1,7 +1,7 @@
 use Rattle.std.proofs.Common.{ap, arith, length, length-take, subst, sym}
 use Rattle.lj_base.specs.Blocks.{AllBelow}
-use Rattle.lj_rows.proofs.CoverTested.{next_tested}
-use Rattle.lj_rows.proofs.cover_rows.block.Goals as goal
+use Rattle.lj_rows_cover.proofs.CoverTested.{next_tested}
+use Rattle.lj_rows_cover.proofs.cover_rows.block.Goals as goal
 
 pub push-requires : goal.push-requires
 push-requires c =

@@ -1,8 +1,8 @@
 use Rattle.std.proofs.Common.{arith, refl, rules}
 use Rattle.lj_cover.specs.Rules.{IsCovering}
-use Rattle.lj_rows.specs.CoverExamples.{five_fives, three_fours}
-use Rattle.lj_rows.proofs.CoverTested.{covers_tested}
-use Rattle.lj_rows.proofs.cover_rows.examples_are_derivations.Goals as goal
+use Rattle.lj_rows_cover.specs.CoverExamples.{five_fives, three_fours}
+use Rattle.lj_rows_cover.proofs.CoverTested.{covers_tested}
+use Rattle.lj_rows_cover.proofs.cover_rows.examples_are_derivations.Goals as goal
 
 pub returns-clause-induced : goal.returns-clause-induced
 returns-clause-induced c =
