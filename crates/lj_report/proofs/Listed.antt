@@ -1,8 +1,10 @@
 -- Which cells are listed, and in which order.
-use Rattle.std.proofs.Common.{◌≡◌, ℕ, zero, suc, ◌+◌, ◌-◌, ◌<◌, ◌≤◌, List, [], ◌∷◌, ◌++◌, map, refl, arith, inl, inr, ⊎_elim, sym, ◌∙◌}
+use Rattle.std.proofs.Common.{◌≡◌, ℕ, zero, suc, ◌+◌, ◌-◌, ◌*◌, ◌<◌, ◌≤◌, List, [], ◌∷◌, ◌++◌, length, map, refl, arith, inl, inr, ⊎_elim, sym, ◌∙◌}
 use Rattle.std.proofs.lemmas.Bool.{cases_lt}
 use Rattle.std.proofs.lemmas.List.Elements.{All-contains, All-from_recursion, Contains-append_left, Contains-append_right}
 use Rattle.std.proofs.lemmas.List.Kept.{AllPairs-cons}
+use Rattle.std.proofs.lemmas.List.{length-append}
+use Rattle.std.proofs.lemmas.List.FromFn.{length-map-range_with_len}
 use Rattle.std.specs.List.{AllByRecursion, AllPairs, Contains, flat_map, range_with_len}
 use Rattle.lj_base.specs.Cells.{IsCell, Triple}
 use Rattle.lj_base.specs.Frames.{Top}
@@ -61,6 +63,24 @@ members f c cell = (
   λ h. All-contains (IsListed f) (report_cells f) c (All-from_recursion (IsListed f) (report_cells f) (all_listed f 1 cell (omega arith))) h,
   Contains-report_cells f c,
 )
+
+-- ---- how many they are
+
+length-joined : {X : Type 0} (f : ℕ → List X) (a n most : ℕ) → ((i : ℕ) → a ≤ i → length (f i) ≤ most) → length (flat_map f (range_with_len a n)) ≤ n * most
+length-joined f a zero most each = omega arith
+length-joined f a (suc n) most each =
+    let first = each a (omega arith) in
+    let rest = length-joined f (a + 1) n most (λ i low. each i (omega arith)) in
+    omega (arith, length-append (f a) (flat_map f (range_with_len (a + 1) n)))
+
+pub few_listed : (f : Top) (t : ℕ) → IsCell f.top → 1 ≤ t → length (cells_from_t f t) ≤ 8 * (25 * 99)
+few_listed f t cell some =
+    let row : (s k : ℕ) → length (cells_from_v f s k (suc k)) ≤ 99 = λ s k. omega (arith, length-map-range_with_len (λ v. let c : Triple = record { v = v; k = k; t = s } in c) (suc k) (suc f.top.v - suc k), cell) in
+    let layer : (s : ℕ) → length (cells_from_k f s (suc s)) ≤ 25 * 99 = λ s.
+    let rows = length-joined (λ k. cells_from_v f s k (suc k)) (suc s) (suc f.top.k - suc s) 99 (λ k low. row s k) in
+    omega (arith, rows, cell) in
+    let layers = length-joined (λ s. cells_from_k f s (suc s)) t (suc f.top.t - t) (25 * 99) (λ s low. layer s) in
+    omega (arith, layers, cell)
 
 -- ---- their order
 

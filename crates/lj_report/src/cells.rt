@@ -1,4 +1,4 @@
-ghost use Rattle.std.specs.Prelude.{◌≡◌, ◌≤◌, ◌∷◌, IfSome, Some};
+ghost use Rattle.std.specs.Prelude.{◌≡◌, ◌*◌, ◌≤◌, ◌∷◌, IfSome, Some, length};
 ghost use Rattle.std.specs.Iterator.{YieldsFirst, item_count};
 ghost use Rattle.std.specs.List.{AllByRecursion};
 ghost use Rattle.lj_report.specs.ReportCells.{IsListed, cells_from, cells_from_t, report_cells};
@@ -29,6 +29,7 @@ impl ReportCells {
     pub fn of(frame: Frame) -> ReportCells
         ensures walk { result ≡ report_cells frame }
         ensures listed { AllByRecursion (IsListed frame) result }
+        ensures few { length result ≤ 8 * (25 * 99) }
     {
         ReportCells {
             frame,
@@ -80,6 +81,7 @@ fn first_from(frame: Frame, t: u8) -> Option<Cell>
     ensures listed { IfSome result (IsListed frame) }
     ensures rest { cells_from frame result ≡ cells_from_t frame t }
     ensures all { AllByRecursion (IsListed frame) (cells_from_t frame t) }
+    ensures few { length (cells_from_t frame t) ≤ 8 * (25 * 99) }
 {
     let top = frame.top;
     if t <= top.t && t < top.k && t + 1 < top.v {

@@ -1,4 +1,5 @@
 ghost use Rattle.std.specs.Prelude.{◌≡◌, ◌==◌, if◌then◌else◌, ◌∷◌, ◌++◌, [], OnErr, OnOk, codes, decimal, length, take};
+ghost use Rattle.std.specs.List.{flat_map};
 ghost use Rattle.lj_base.specs.Frames.{InFrame, size_of};
 ghost use Rattle.lj_report.specs.Reports.{bound_of, lower_number, report_line, report_text};
 
@@ -51,12 +52,20 @@ fn append_line(cell: Cell, bound: u64, out: &mut Vec<u8>) -> Result<(), Memory>
     ensures err { OnErr result (take (length out.old.items) out.new.items ≡ out.old.items) }
 {
     let lower = schonheim(cell);
-    put_spaced(out, cell.v as u64)?;
-    put_spaced(out, cell.k as u64)?;
-    put_spaced(out, cell.t as u64)?;
+    put_cell(out, cell)?;
     put_spaced(out, bound)?;
     put_number(out, lower)?;
     put(out, line_end(bound == lower))
+}
+
+// Appends the cell's numbers with a space behind each; after an error a part of them may have been appended.
+fn put_cell(out: &mut Vec<u8>, cell: Cell) -> Result<(), Memory>
+    ensures ok { OnOk result (out.new.items ≡ out.old.items ++ flat_map (λ n. decimal n ++ 32 ∷ []) (cell.v ∷ cell.k ∷ cell.t ∷ [])) }
+    ensures err { OnErr result (take (length out.old.items) out.new.items ≡ out.old.items) }
+{
+    put_spaced(out, cell.v as u64)?;
+    put_spaced(out, cell.k as u64)?;
+    put_spaced(out, cell.t as u64)
 }
 
 // Appends a number and a space; after an error the number may have been appended.
