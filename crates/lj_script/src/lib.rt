@@ -1,0 +1,8 @@
+//! Scripts: read from bytes, with each fault named.
+#![tactic(auto)]
+
+mod faults;
+mod scripts;
+
+pub use faults::ScriptFault;
+pub use scripts::Command;
