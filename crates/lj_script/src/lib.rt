@@ -5,4 +5,4 @@ mod faults;
 mod scripts;
 
 pub use faults::ScriptFault;
-pub use scripts::Command;
+pub use scripts::{Body, Command, Commands, Script, Section, Sections};
