@@ -11,12 +11,18 @@ use Rattle.lj_upload.specs.Names.{IsName}
 use Rattle.lj_script.specs.Values.{SectionValue, ScriptValue}
 use Rattle.lj_script.specs.declared.scripts.Command.{Command}
 use Rattle.lj_script.specs.declared.scripts.Command.TheVariants.{Upload, UploadFile, Bound, Plan, Expand, Settle}
+use Rattle.lj_script.specs.declared.forms.Form.{Form}
+use Rattle.lj_script.specs.declared.forms.Form.TheVariants.{Client, Upload as Offer, UploadFile as OfferFile, Ask}
 use Rattle.lj_script.specs.declared.faults.ScriptFault.{ScriptFault}
 use Rattle.lj_script.specs.declared.faults.ScriptFault.TheVariants.{NoFrame, BadLine, BadFrame, Unended, TooManyClients, TooManyCommands, Memory}
 
+-- the words of a text
+abbrev pub words_of : List ℕ → List (List ℕ)
+words_of text = map (token_text text) (tokens_of text)
+
 -- the words of a line
 abbrev pub words : List ℕ → Line → List (List ℕ)
-words bytes line = let text = line_text bytes line in map (token_text text) (tokens_of text)
+words bytes line = words_of (line_text bytes line)
 
 -- a first word and three numbers, which make a cell with k of 1 or more
 pub record NamesCell (first : List ℕ) (line : List (List ℕ)) (c : Triple) : Type 0 where
@@ -30,13 +36,6 @@ pub record NamesCell (first : List ℕ) (line : List (List ℕ)) (c : Triple) : 
   pub in_limits : IsCell c
   pub some : 1 ≤ c.k
 
--- what a line behind the frame's may say
-pub data Form : Type 0 where
-  client : List ℕ → Form
-  upload : Triple → Form
-  upload_file : Form
-  ask : Command → Form
-
 -- the command is one of a single line, and says this
 abbrev pub Asks : List (List ℕ) → Command → Type 0
 Asks line (Upload c body) = ⊥
@@ -46,11 +45,12 @@ Asks line (Plan c) = NamesCell (codes "plan") line c
 Asks line (Expand c) = NamesCell (codes "expand") line c
 Asks line Settle = line ≡ codes "settle" ∷ []
 
+-- a line behind the frame's has this form
 abbrev pub Says : List (List ℕ) → Form → Type 0
-Says line (client name) = (line ≡ codes "client" ∷ name ∷ []) × IsName name
-Says line (upload c) = NamesCell (codes "upload") line c
-Says line upload_file = line ≡ codes "upload" ∷ codes "file" ∷ []
-Says line (ask command) = Asks line command
+Says line (Client name) = (line ≡ codes "client" ∷ name ∷ []) × IsName name
+Says line (Offer c) = NamesCell (codes "upload") line c
+Says line OfferFile = line ≡ codes "upload" ∷ codes "file" ∷ []
+Says line (Ask command) = Asks line command
 
 -- the line that ends a body
 abbrev pub IsEnd : List ℕ → Line → Type 0
@@ -66,19 +66,35 @@ pub record IsBody (bytes : List ℕ) (begin : Line) (lines : List Line) (body : 
   pub ends : IsEnd bytes end
   pub body_is : body ≡ slice_range bytes (after_line bytes begin) end.start
 
--- the lines begin with one that says this form
+-- the lines begin with one that has this form
 pub record Begins (bytes : List ℕ) (form : Form) (lines : List Line) (first : Line) (others : List Line) : Type 0 where
   pub lines_are : lines ≡ first ∷ others
   pub says : Says (words bytes first) form
 
+-- the form of a command's first line
+abbrev pub form_of : Command → Form
+form_of (Upload c body) = Offer c
+form_of (UploadFile body) = OfferFile
+form_of (Bound c) = Ask (Bound c)
+form_of (Plan c) = Ask (Plan c)
+form_of (Expand c) = Ask (Expand c)
+form_of Settle = Ask Settle
+
+-- behind the first line of an upload comes its body, and behind that of another command the rest
+abbrev pub Completes : List ℕ → Command → Line → List Line → List Line → Type 0
+Completes bytes (Upload c body) first others rest = IsBody bytes first others body rest
+Completes bytes (UploadFile body) first others rest = IsBody bytes first others body rest
+Completes bytes (Bound c) first others rest = others ≡ rest
+Completes bytes (Plan c) first others rest = others ≡ rest
+Completes bytes (Expand c) first others rest = others ≡ rest
+Completes bytes Settle first others rest = others ≡ rest
+
 -- the lines begin with those of the command, and the rest follows
-abbrev pub IsCommand : List ℕ → Command → List Line → List Line → Type 0
-IsCommand bytes (Upload c body) lines rest = (first : Line) × (others : List Line) × Begins bytes (upload c) lines first others × IsBody bytes first others body rest
-IsCommand bytes (UploadFile body) lines rest = (first : Line) × (others : List Line) × Begins bytes upload_file lines first others × IsBody bytes first others body rest
-IsCommand bytes (Bound c) lines rest = (first : Line) × Begins bytes (ask (Bound c)) lines first rest
-IsCommand bytes (Plan c) lines rest = (first : Line) × Begins bytes (ask (Plan c)) lines first rest
-IsCommand bytes (Expand c) lines rest = (first : Line) × Begins bytes (ask (Expand c)) lines first rest
-IsCommand bytes Settle lines rest = (first : Line) × Begins bytes (ask Settle) lines first rest
+pub record IsCommand (bytes : List ℕ) (command : Command) (lines rest : List Line) : Type 0 where
+  pub first : Line
+  pub others : List Line
+  pub begins : Begins bytes (form_of command) lines first others
+  pub completes : Completes bytes command first others rest
 
 abbrev pub AreCommands : List ℕ → List Command → List Line → List Line → Type 0
 AreCommands bytes [] lines rest = lines ≡ rest
@@ -87,7 +103,7 @@ AreCommands bytes (c ∷ cs) lines rest = (middle : List Line) × IsCommand byte
 -- the lines begin with those of the sections, of which none has the name of an earlier one, and the rest follows
 abbrev pub AreSections : List ℕ → List (List ℕ) → List SectionValue → List Line → List Line → Type 0
 AreSections bytes used [] lines rest = lines ≡ rest
-AreSections bytes used (s ∷ ss) lines rest = (first : Line) × (others middle : List Line) × Begins bytes (client s.name) lines first others
+AreSections bytes used (s ∷ ss) lines rest = (first : Line) × (others middle : List Line) × Begins bytes (Client s.name) lines first others
     × (Contains used s.name → ⊥) × AreCommands bytes s.commands others middle × AreSections bytes (s.name ∷ used) ss middle rest
 
 -- no more than 16 sections, and none with more than 4,096 commands
@@ -109,10 +125,10 @@ pub record IsScript (bytes : List ℕ) (script : ScriptValue) : Type 0 where
 
 -- a line of this form may stand behind these sections: a client has a new name, and a command has a client
 abbrev pub Follows : List SectionValue → Form → Type 0
-Follows sections (client name) = Contains (map (λ s. s.name) sections) name → ⊥
-Follows sections (upload c) = 0 < length sections
-Follows sections upload_file = 0 < length sections
-Follows sections (ask command) = 0 < length sections
+Follows sections (Client name) = Contains (map (λ s. s.name) sections) name → ⊥
+Follows sections (Offer c) = 0 < length sections
+Follows sections OfferFile = 0 < length sections
+Follows sections (Ask command) = 0 < length sections
 
 -- how many commands the last section has
 abbrev pub last_commands : List SectionValue → ℕ
@@ -122,7 +138,7 @@ last_commands (s ∷ r ∷ ss) = last_commands (r ∷ ss)
 
 -- an upload's line
 abbrev pub SaysUpload : List (List ℕ) → Type 0
-SaysUpload line = ((c : Triple) × Says line (upload c)) ⊎ Says line upload_file
+SaysUpload line = ((c : Triple) × Says line (Offer c)) ⊎ Says line OfferFile
 
 -- a command's line
 abbrev pub SaysCommand : List (List ℕ) → Type 0
@@ -132,7 +148,7 @@ SaysCommand line = SaysUpload line ⊎ ((command : Command) × Asks line command
 abbrev pub IsFaulty : List ℕ → List SectionValue → Line → List Line → ScriptFault → Type 0
 IsFaulty bytes sections line after (BadLine n) = (n ≡ line.number) × ((form : Form) → Says (words bytes line) form → Follows sections form → ⊥)
 IsFaulty bytes sections line after (TooManyClients n) = (n ≡ line.number) × (length sections ≡ 16)
-    × (name : List ℕ) × Says (words bytes line) (client name) × Follows sections (client name)
+    × (name : List ℕ) × Says (words bytes line) (Client name) × Follows sections (Client name)
 IsFaulty bytes sections line after (TooManyCommands n) = (n ≡ line.number) × (last_commands sections ≡ 4096) × SaysCommand (words bytes line)
 IsFaulty bytes sections line after (Unended n) = (n ≡ line.number) × (0 < length sections) × (last_commands sections < 4096)
     × SaysUpload (words bytes line) × AllByRecursion (λ later. IsEnd bytes later → ⊥) after

@@ -2,7 +2,9 @@
 #![tactic(auto)]
 
 mod faults;
+mod forms;
 mod scripts;
+mod words;
 
 pub use faults::ScriptFault;
 pub use scripts::{Body, Command, Commands, Script, Section, Sections};
