@@ -1,0 +1,3 @@
+pub mod LastSections
+pub mod Names
+pub mod Searching

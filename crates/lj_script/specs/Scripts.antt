@@ -56,14 +56,17 @@ Says line (Ask command) = Asks line command
 abbrev pub IsEnd : List ℕ → Line → Type 0
 IsEnd bytes line = words bytes line ≡ codes "end" ∷ []
 
--- behind an upload's line stand the lines of its body, then the first `end` line, then the rest;
--- the body is the bytes from behind the upload's line up to the `end` line
-pub record IsBody (bytes : List ℕ) (begin : Line) (lines : List Line) (body : List ℕ) (rest : List Line) : Type 0 where
+-- the lines go up to `end`, the first that ends a body, and the rest follows
+pub record GoTo (bytes : List ℕ) (end : Line) (lines rest : List Line) : Type 0 where
   pub inner : List Line
-  pub end : Line
   pub lines_are : lines ≡ inner ++ end ∷ rest
   pub none_ends : AllByRecursion (λ line. IsEnd bytes line → ⊥) inner
   pub ends : IsEnd bytes end
+
+-- the body of an upload: the bytes from behind the upload's line up to the first line that ends a body
+pub record IsBody (bytes : List ℕ) (begin : Line) (lines : List Line) (body : List ℕ) (rest : List Line) : Type 0 where
+  pub end : Line
+  pub reaches : GoTo bytes end lines rest
   pub body_is : body ≡ slice_range bytes (after_line bytes begin) end.start
 
 -- the lines begin with one that has this form

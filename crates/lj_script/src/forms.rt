@@ -38,7 +38,7 @@ pub(crate) fn form_of(line: &[u8]) -> Option<Form>
     cell_form(first, cell)
 }
 
-fn is_word(word: &[u8], text: &[u8]) -> bool
+pub(crate) fn is_word(word: &[u8], text: &[u8]) -> bool
     ensures { IsTrue result ↔ (word.now ≡ text.now) }
 {
     word == text

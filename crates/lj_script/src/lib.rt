@@ -1,8 +1,10 @@
 //! Scripts: read from bytes, with each fault named.
 #![tactic(auto)]
 
+mod bodies;
 mod faults;
 mod forms;
+mod growing;
 mod scripts;
 mod words;
 
