@@ -45,3 +45,7 @@ last_commands-in [] s is = cc
 last_commands-in (r ∷ ss) s is =
     let one : length (r ∷ ss) - 1 + 1 ≡ length (r ∷ ss) = omega arith in
     last_commands-at (r ∷ ss) (length (r ∷ ss) - 1) s one ∙ ap (λ (x : SectionValue). length x.commands) (get_or_from_slice_get (r ∷ ss) (length (r ∷ ss) - 1) s s is)
+
+pub some-in : (ss : List SectionValue) (i : ℕ) (s : SectionValue) → slice_get ss i ≡ Some s → 0 < length ss
+some-in [] i s is = cc
+some-in (r ∷ ss) i s is = omega arith

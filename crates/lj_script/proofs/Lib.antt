@@ -1,3 +1,4 @@
+pub mod Adding
 pub mod LastSections
 pub mod Names
 pub mod Searching

@@ -1,9 +1,10 @@
 -- A script is read item by item: a client's line, or a command with its lines.
 use Rattle.std.specs.Prelude.{◌≡◌, ℕ, ◌<◌, List, [], ◌∷◌, ◌++◌, length, map}
 use Rattle.std.specs.List.{Contains}
+use Rattle.lj_base.specs.Frames.{Top}
 use Rattle.lj_text.specs.declared.lines.Line.{Line}
 use Rattle.lj_script.specs.Values.{SectionValue}
-use Rattle.lj_script.specs.Scripts.{Begins, IsCommand, last_commands}
+use Rattle.lj_script.specs.Scripts.{Begins, IsCommand, IsFrameLine, last_commands, words}
 use Rattle.lj_script.specs.declared.faults.ScriptFault.{ScriptFault}
 use Rattle.lj_script.specs.declared.faults.ScriptFault.TheVariants.{NoFrame, BadLine, BadFrame, Unended, TooManyClients, TooManyCommands, Memory}
 use Rattle.lj_script.specs.declared.forms.Form.TheVariants.{Client}
@@ -18,10 +19,14 @@ abbrev pub IsItem : List ℕ → Item → List Line → List Line → Type 0
 IsItem bytes (new_client name) lines rest = (first : Line) × Begins bytes (Client name) lines first rest
 IsItem bytes (new_command c) lines rest = IsCommand bytes c lines rest
 
+-- there is a section, and the last has room for one command more
+abbrev pub HasRoom : List SectionValue → Type 0
+HasRoom sections = (0 < length sections) × (last_commands sections < 4096)
+
 -- the item may stand behind these sections, within the limits
 abbrev pub FitsBehind : List SectionValue → Item → Type 0
 FitsBehind sections (new_client name) = (Contains (map (λ s. s.name) sections) name → ⊥) × (length sections < 16)
-FitsBehind sections (new_command c) = (0 < length sections) × (last_commands sections < 4096)
+FitsBehind sections (new_command c) = HasRoom sections
 
 -- the sections with one command more in the last
 abbrev pub with_command : List SectionValue → Command → List SectionValue
@@ -59,3 +64,9 @@ IsRoomFault sections line NoFrame = ⊥
 IsRoomFault sections line (BadFrame n) = ⊥
 IsRoomFault sections line (Unended n) = ⊥
 IsRoomFault sections line (TooManyClients n) = ⊥
+
+-- the first line names the frame, and the others follow
+pub record TakesFrame (bytes : List ℕ) (frame : Top) (lines others : List Line) : Type 0 where
+  pub first : Line
+  pub lines_are : lines ≡ first ∷ others
+  pub names_frame : IsFrameLine (words bytes first) frame

@@ -103,11 +103,18 @@ abbrev pub AreCommands : List ℕ → List Command → List Line → List Line �
 AreCommands bytes [] lines rest = lines ≡ rest
 AreCommands bytes (c ∷ cs) lines rest = (middle : List Line) × IsCommand bytes c lines middle × AreCommands bytes cs middle rest
 
--- the lines begin with those of the sections, of which none has the name of an earlier one, and the rest follows
+-- the lines begin with those of the section, whose client has none of these names, and the rest follows
+pub record IsSection (bytes : List ℕ) (used : List (List ℕ)) (section : SectionValue) (lines rest : List Line) : Type 0 where
+  pub first : Line
+  pub others : List Line
+  pub begins : Begins bytes (Client section.name) lines first others
+  pub fresh : Contains used section.name → ⊥
+  pub commands : AreCommands bytes section.commands others rest
+
+-- the lines begin with those of the sections, each with a name of its own, and the rest follows
 abbrev pub AreSections : List ℕ → List (List ℕ) → List SectionValue → List Line → List Line → Type 0
 AreSections bytes used [] lines rest = lines ≡ rest
-AreSections bytes used (s ∷ ss) lines rest = (first : Line) × (others middle : List Line) × Begins bytes (Client s.name) lines first others
-    × (Contains used s.name → ⊥) × AreCommands bytes s.commands others middle × AreSections bytes (s.name ∷ used) ss middle rest
+AreSections bytes used (s ∷ ss) lines rest = (middle : List Line) × IsSection bytes used s lines middle × AreSections bytes (s.name ∷ used) ss middle rest
 
 -- no more than 16 sections, and none with more than 4,096 commands
 abbrev pub IsWithin : List SectionValue → Type 0
@@ -117,14 +124,18 @@ IsWithin sections = (length sections ≤ 16) × AllByRecursion (λ s. length s.c
 abbrev pub IsFrameLine : List (List ℕ) → Top → Type 0
 IsFrameLine line frame = NamesCell (codes "frame") line frame.top
 
--- the bytes spell the script
-pub record IsScript (bytes : List ℕ) (script : ScriptValue) : Type 0 where
+-- the lines of the bytes before the rest are those of this frame and of these sections
+pub record IsReadUpTo (bytes : List ℕ) (frame : Top) (sections : List SectionValue) (rest : List Line) : Type 0 where
   pub first : Line
   pub others : List Line
-  pub lines : text_lines bytes ≡ first ∷ others
-  pub frame : IsFrameLine (words bytes first) script.frame
-  pub sections : AreSections bytes [] script.clients others []
-  pub within : IsWithin script.clients
+  pub lines_are : text_lines bytes ≡ first ∷ others
+  pub names_frame : IsFrameLine (words bytes first) frame
+  pub are_sections : AreSections bytes [] sections others rest
+  pub within : IsWithin sections
+
+-- the bytes spell the script
+abbrev pub IsScript : List ℕ → ScriptValue → Type 0
+IsScript bytes script = IsReadUpTo bytes script.frame script.clients []
 
 -- a line of this form may stand behind these sections: a client has a new name, and a command has a client
 abbrev pub Follows : List SectionValue → Form → Type 0
@@ -161,16 +172,11 @@ IsFaulty bytes sections line after Memory = ⊥
 
 -- the lines before the first faulty one are those of a frame and of whole sections and commands
 pub record IsFaultyBehind (bytes : List ℕ) (fault : ScriptFault) : Type 0 where
-  pub first : Line
-  pub others : List Line
-  pub lines : text_lines bytes ≡ first ∷ others
   pub frame : Top
-  pub frame_is : IsFrameLine (words bytes first) frame
   pub before : List SectionValue
   pub line : Line
   pub after : List Line
-  pub sections : AreSections bytes [] before others (line ∷ after)
-  pub within : IsWithin before
+  pub read : IsReadUpTo bytes frame before (line ∷ after)
   pub faulty : IsFaulty bytes before line after fault
 
 -- the first line's first word is this
@@ -188,10 +194,20 @@ SpoilsFrame bytes [] n = ⊥
 SpoilsFrame bytes (line ∷ lines) n = (n ≡ line.number) × StartsWith (codes "frame") (words bytes line)
     × ((frame : Top) → IsFrameLine (words bytes line) frame → ⊥)
 
+-- what is wrong with the first line
+abbrev pub IsFrameFault : List ℕ → List Line → ScriptFault → Type 0
+IsFrameFault bytes lines NoFrame = LacksFrame bytes lines
+IsFrameFault bytes lines (BadFrame n) = SpoilsFrame bytes lines n
+IsFrameFault bytes lines (BadLine n) = ⊥
+IsFrameFault bytes lines (Unended n) = ⊥
+IsFrameFault bytes lines (TooManyClients n) = ⊥
+IsFrameFault bytes lines (TooManyCommands n) = ⊥
+IsFrameFault bytes lines Memory = ⊥
+
 -- why the bytes spell no script
 abbrev pub IsScriptFault : List ℕ → ScriptFault → Type 0
-IsScriptFault bytes NoFrame = LacksFrame bytes (text_lines bytes)
-IsScriptFault bytes (BadFrame n) = SpoilsFrame bytes (text_lines bytes) n
+IsScriptFault bytes NoFrame = IsFrameFault bytes (text_lines bytes) NoFrame
+IsScriptFault bytes (BadFrame n) = IsFrameFault bytes (text_lines bytes) (BadFrame n)
 IsScriptFault bytes Memory = Unit {0}
 IsScriptFault bytes (BadLine n) = IsFaultyBehind bytes (BadLine n)
 IsScriptFault bytes (Unended n) = IsFaultyBehind bytes (Unended n)

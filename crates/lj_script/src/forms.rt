@@ -55,8 +55,17 @@ fn client_form(second: &[u8], mut words: Words) -> Option<Form>
     Name::of(second).map(Form::Client)
 }
 
-// The cell that three numbers name, with nothing behind them.
-pub(crate) fn read_cell(v: &[u8], mut words: Words) -> Option<Cell>
+// The cell that the words left name: three numbers, with nothing behind them.
+pub(crate) fn rest_cell(mut words: Words) -> Option<Cell>
+    ensures some { IfSome result (λ c. (first : List ℕ) → NamesCell first (first ∷ words.entry) c) }
+    ensures none { IfNone result ((first : List ℕ) (c : Triple) → NamesCell first (first ∷ words.entry) c → ⊥) }
+{
+    let v = words.next()?;
+    read_cell(v, words)
+}
+
+// The same, where the first of the numbers was taken.
+fn read_cell(v: &[u8], mut words: Words) -> Option<Cell>
     ensures some { IfSome result (λ c. (first : List ℕ) → NamesCell first (first ∷ v.now ∷ words.entry) c) }
     ensures none { IfNone result ((first : List ℕ) (c : Triple) → NamesCell first (first ∷ v.now ∷ words.entry) c → ⊥) }
 {

@@ -1,12 +1,10 @@
-ghost use Rattle.std.specs.Prelude.{◌≡◌, ◌↔◌, ◌<◌, ◌≤◌, IfErr, IsTrue, OnOk, length, map};
+ghost use Rattle.std.specs.Prelude.{◌≡◌, ◌↔◌, ◌≤◌, IfErr, IsTrue, OnOk, length, map};
 ghost use Rattle.std.specs.List.{Contains};
-ghost use Rattle.lj_script.specs.Items.{FitsBehind, IsClientFault, IsRoomFault, new_client, new_command, with_item};
-ghost use Rattle.lj_script.specs.Scripts.{last_commands};
+ghost use Rattle.lj_script.specs.Items.{FitsBehind, HasRoom, IsClientFault, IsRoomFault, new_client, new_command, with_item};
 ghost use Rattle.lj_script.specs.Values.{NamesSome};
 
 use crate::faults::ScriptFault;
 use crate::scripts::{Command, Commands, Section};
-use lj_base::Memory;
 use lj_upload::Name;
 use std::alloc::Global;
 
@@ -17,8 +15,8 @@ const MAX_COMMANDS: usize = 4096;
 // Begins the section of a client, whose line has this number.
 pub(crate) fn add_client(alloc: Global, sections: &mut Vec<Section>, name: Name, line: u64) -> Result<(), ScriptFault>
     requires { length sections.old.items ≤ 16 }
-    ensures fits { OnOk result (FitsBehind sections.old.items (new_client name)) }
-    ensures added { OnOk result (sections.new.items ≡ with_item sections.old.items (new_client name)) }
+    ensures added { OnOk result (FitsBehind sections.old.items (new_client name)
+        × (sections.new.items ≡ with_item sections.old.items (new_client name))) }
     ensures fault { IfErr result (IsClientFault sections.old.items name line) }
 {
     if is_used(sections, &name) {
@@ -28,10 +26,9 @@ pub(crate) fn add_client(alloc: Global, sections: &mut Vec<Section>, name: Name,
         return Err(ScriptFault::TooManyClients { line });
     }
     let commands = Commands::of(Vec::new(alloc));
-    match sections.push(Section { name, commands }) {
-        Ok(()) => Ok(()),
-        Err(_) => Err(ScriptFault::Memory),
-    }
+    sections
+        .push(Section { name, commands })
+        .map_err(|_| ScriptFault::Memory)
 }
 
 fn is_used(sections: &[Section], name: &Name) -> bool
@@ -48,8 +45,7 @@ fn has_name(section: &Section, name: &Name) -> bool
 
 // Whether there is a section, and room for one command more in the last.
 pub(crate) fn check_room(sections: &[Section], line: u64) -> Result<(), ScriptFault>
-    ensures some { OnOk result (0 < length sections.now) }
-    ensures room { OnOk result (last_commands sections.now < 4096) }
+    ensures room { OnOk result (HasRoom sections.now) }
     ensures fault { IfErr result (IsRoomFault sections.now line) }
 {
     let Some(section) = sections.last() else {
@@ -62,12 +58,14 @@ pub(crate) fn check_room(sections: &[Section], line: u64) -> Result<(), ScriptFa
 }
 
 // Adds a command to the last section.
-pub(crate) fn push_command(sections: &mut Vec<Section>, command: Command) -> Result<(), Memory>
-    requires some { 0 < length sections.old.items }
-    requires room { last_commands sections.old.items < 4096 }
+pub(crate) fn push_command(sections: &mut Vec<Section>, command: Command) -> Result<(), ScriptFault>
+    requires room { HasRoom sections.old.items }
     requires cell { NamesSome command }
-    ensures { OnOk result (sections.new.items ≡ with_item sections.old.items (new_command command)) }
+    ensures added { OnOk result (sections.new.items ≡ with_item sections.old.items (new_command command)) }
+    ensures fault { IfErr result (λ fault. fault ≡ ScriptFault.Memory) }
 {
     let last = sections.len() - 1;
-    sections[last].push(command)
+    sections[last]
+        .push(command)
+        .map_err(|_| ScriptFault::Memory)
 }
