@@ -67,7 +67,7 @@ module _ {bytes : List ℕ} {line : Line} {rest : List Line} {before now : List 
 
 -- ---- the sections with an item more
 
-Contains-one : (x n : List ℕ) → Contains (x ∷ []) n → x ≡ n
+pub Contains-one : (x n : List ℕ) → Contains (x ∷ []) n → x ≡ n
 Contains-one x n (zero, lt, e) = e
 Contains-one x n (suc k, lt, e) = absurd (omega arith)
 
@@ -75,13 +75,13 @@ Contains-one x n (suc k, lt, e) = absurd (omega arith)
 pub unused_more : (x n : List ℕ) (used : List (List ℕ)) → (Contains used n → ⊥) → (x ≡ n → ⊥) → Contains (x ∷ used) n → ⊥
 unused_more x n used fresh other h = ⊎_elim (λ one. other (Contains-one x n one)) (λ rest. fresh rest) (Contains-append_cases (x ∷ []) used n h)
 
-Contains-first : (x : List ℕ) (used : List (List ℕ)) → Contains (x ∷ used) x
+pub Contains-first : (x : List ℕ) (used : List (List ℕ)) → Contains (x ∷ used) x
 Contains-first x used = (0, omega arith, refl)
 
-Contains-later : (x n : List ℕ) (used : List (List ℕ)) → Contains used n → Contains (x ∷ used) n
+pub Contains-later : (x n : List ℕ) (used : List (List ℕ)) → Contains used n → Contains (x ∷ used) n
 Contains-later x n used (k, lt, e) = (suc k, omega arith, e)
 
-abbrev names : List SectionValue → List (List ℕ)
+abbrev pub names : List SectionValue → List (List ℕ)
 names sections = map (λ s. s.name) sections
 
 AreSections-client : (bytes name : List ℕ) (first : Line) (used : List (List ℕ)) (ss : List SectionValue) (lines middle rest : List Line) → AreSections bytes used ss lines middle
@@ -125,7 +125,7 @@ length-with_command [] c = refl
 length-with_command (s ∷ []) c = refl
 length-with_command (s ∷ (r ∷ ss)) c = let rest = length-with_command (r ∷ ss) c in omega arith
 
-abbrev AreFew : List SectionValue → Type 0
+abbrev pub AreFew : List SectionValue → Type 0
 AreFew sections = AllByRecursion (λ s. length s.commands ≤ 4096) sections
 
 few-with_command : (ss : List SectionValue) (c : Command) → AreFew ss → last_commands ss < 4096 → AreFew (with_command ss c)

@@ -1,5 +1,8 @@
 pub mod Adding
 pub mod LastSections
 pub mod Names
+pub mod SameItems
+pub mod OneReading
+pub mod Paths
 pub mod Searching
 pub mod Unique

@@ -1,8 +1,10 @@
-ghost use Rattle.std.specs.Prelude.{◌≡◌, ◌⊎◌, ◌≤◌, ◌∷◌, IfErr, IfOk, OnOk, length};
+ghost use Rattle.std.specs.Prelude.{◌≡◌, ◌⊎◌, ◌≤◌, ◌∷◌, IfErr, IfOk, MatchResult, OnOk, length};
 ghost use Rattle.std.specs.List.{AllByRecursion};
 ghost use Rattle.lj_text.specs.Lines.{IsLineOf};
 ghost use Rattle.lj_script.specs.Items.{AddsItem, TakesFrame};
 ghost use Rattle.lj_script.specs.Scripts.{IsFaulty, IsFrameFault, IsScript, IsScriptFault};
+ghost use Rattle.lj_script.specs.Values.{ScriptValue};
+ghost use Rattle.lj_script.specs.declared.faults.ScriptFault.{ScriptFault};
 
 use crate::bodies::{read_body, text_of};
 use crate::faults::ScriptFault;
@@ -19,6 +21,12 @@ use std::alloc::Global;
 pub fn read_script(alloc: Global, bytes: &[u8]) -> Result<Script, ScriptFault>
     ensures script { IfOk result (IsScript bytes.now) }
     ensures fault { IfErr result (IsScriptFault bytes.now) }
+
+    // Of a script it is the only one that the bytes spell, and else the fault is the only one: only memory can be wanting.
+    ensures complete { (script : ScriptValue) → IsScript bytes.now script
+        → MatchResult result (λ read. read ≡ script) (λ fault. fault ≡ ScriptFault.Memory) }
+    ensures exact { (fault : ScriptFault) → IsScriptFault bytes.now fault → (fault ≡ ScriptFault.Memory → ⊥)
+        → MatchResult result (λ _. ⊥) (λ told. (told ≡ fault) ⊎ (told ≡ ScriptFault.Memory)) }
 {
     let mut lines = Lines::of(bytes);
     let frame = read_frame(bytes, &mut lines)?;
