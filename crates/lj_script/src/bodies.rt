@@ -11,7 +11,12 @@ use lj_text::{Line, Lines, after_line};
 use std::alloc::Global;
 
 // The body of the upload that a line begins. The lines behind it are gone through up to the one that ends it.
-pub(crate) fn read_body(alloc: Global, bytes: &[u8], line: &Line, rest: &mut Lines) -> Result<Body, ScriptFault>
+pub(crate) fn read_body(
+    alloc: Global,
+    bytes: &[u8],
+    line: &Line,
+    rest: &mut Lines,
+) -> Result<Body, ScriptFault>
     requires line { IsLineOf bytes.now line.now }
     requires rest { AllByRecursion (IsLineOf bytes.now) rest.old }
     ensures body { IfOk result (λ body. IsBody bytes.now line.now rest.old body rest.new) }
@@ -19,9 +24,7 @@ pub(crate) fn read_body(alloc: Global, bytes: &[u8], line: &Line, rest: &mut Lin
         ⊎ ((fault ≡ ScriptFault.Unended line.now.number) × AllByRecursion (λ later. IsEnd bytes.now later → ⊥) rest.old)) }
 {
     let Some(end) = find_end(bytes, rest) else {
-        return Err(ScriptFault::Unended {
-            line: line.number,
-        });
+        return Err(ScriptFault::Unended { line: line.number });
     };
     let start = after_line(bytes, line).min(end.start);
     match bytes[start as usize..end.start as usize].to_vec(alloc) {

@@ -13,7 +13,12 @@ const MAX_CLIENTS: usize = 16;
 const MAX_COMMANDS: usize = 4096;
 
 // Begins the section of a client, whose line has this number.
-pub(crate) fn add_client(alloc: Global, sections: &mut Vec<Section>, name: Name, line: u64) -> Result<(), ScriptFault>
+pub(crate) fn add_client(
+    alloc: Global,
+    sections: &mut Vec<Section>,
+    name: Name,
+    line: u64,
+) -> Result<(), ScriptFault>
     requires { length sections.old.items ≤ 16 }
     ensures added { OnOk result (FitsBehind sections.old.items (new_client name)
         × (sections.new.items ≡ with_item sections.old.items (new_client name))) }

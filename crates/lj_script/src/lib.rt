@@ -12,3 +12,6 @@ mod words;
 pub use faults::ScriptFault;
 pub use reading::read_script;
 pub use scripts::{Body, Command, Commands, Script, Section, Sections};
+
+#[cfg(test)]
+mod tests;

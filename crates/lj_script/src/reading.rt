@@ -61,7 +61,13 @@ fn read_frame(bytes: &[u8], lines: &mut Lines) -> Result<Frame, ScriptFault>
 }
 
 // Reads the item that a line begins: a client's line, or a command with its lines.
-fn read_item(alloc: Global, bytes: &[u8], line: &Line, rest: &mut Lines, sections: &mut Vec<Section>) -> Result<(), ScriptFault>
+fn read_item(
+    alloc: Global,
+    bytes: &[u8],
+    line: &Line,
+    rest: &mut Lines,
+    sections: &mut Vec<Section>,
+) -> Result<(), ScriptFault>
     requires line { IsLineOf bytes.now line.now }
     requires rest { AllByRecursion (IsLineOf bytes.now) rest.old }
     requires few { length sections.old.items ≤ 16 }
