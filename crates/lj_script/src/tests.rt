@@ -2,6 +2,7 @@ use crate::{Body, Command, Commands, Script, ScriptFault, Section, Sections, rea
 use lj_base::{Cell, Frame, Memory};
 use lj_upload::Name;
 use std::alloc::Global;
+use std::process::Abort;
 use std::test::Fail;
 
 // A command's word, the numbers of its cell and its body.
@@ -23,6 +24,23 @@ fn numbers(cell: &Cell) -> [u8; 3] {
 const WHOLE: &[u8] = b"frame 7 3 2\nclient ann\nupload 5 3 2\n1 2 3\nend\nsettle\nbound 5 3 2\n\
     client bob\nupload file\n5 3 2 1\n1 2 3\nend\nplan 5 3 2\nexpand 5 3 2\n";
 
+// The section has this name and these commands.
+fn expect_section(
+    rt: &impl Abort,
+    section: &Section,
+    name: &[u8],
+    commands: &[(&str, [u8; 3], &[u8])],
+) {
+    assert_eq!(rt; section.name.bytes(), name);
+    assert_eq!(rt; section.commands.items().len(), commands.len());
+    for (command, want) in section.commands().iter().zip(commands) {
+        let (word, cell, body) = parts(command);
+        assert_eq!(rt; word, want.0);
+        assert_eq!(rt; cell, want.1);
+        assert_eq!(rt; body, want.2);
+    }
+}
+
 #[test]
 fn a_script_is_read_whole(rt: HostRuntime) -> Result<(), Fail> {
     let ann: [(&str, [u8; 3], &[u8]); 3] = [
@@ -35,20 +53,12 @@ fn a_script_is_read_whole(rt: HostRuntime) -> Result<(), Fail> {
         ("plan", [5, 3, 2], b""),
         ("expand", [5, 3, 2], b""),
     ];
-    let clients: [(&[u8], &[(&str, [u8; 3], &[u8])]); 2] = [(b"ann", &ann), (b"bob", &bob)];
     let script = read_script(rt.alloc(), WHOLE)?;
     assert_eq!(rt; numbers(&script.frame.top), [7, 3, 2]);
-    assert_eq!(rt; script.clients.items().len(), 2);
-    for (section, (name, commands)) in script.sections().iter().zip(clients.iter()) {
-        assert_eq!(rt; section.name.bytes(), *name);
-        assert_eq!(rt; section.commands.items().len(), 3);
-        for (command, want) in section.commands().iter().zip(commands.iter()) {
-            let (word, cell, body) = parts(command);
-            assert_eq!(rt; word, want.0);
-            assert_eq!(rt; cell, want.1);
-            assert_eq!(rt; body, want.2);
-        }
-    }
+    let sections = script.clients.items();
+    assert_eq!(rt; sections.len(), 2);
+    expect_section(&rt, &sections[0], b"ann", &ann);
+    expect_section(&rt, &sections[1], b"bob", &bob);
     Ok(())
 }
 
