@@ -1,3 +1,4 @@
 pub mod Values
 pub mod Scripts
 pub mod Items
+pub mod LineOrder
