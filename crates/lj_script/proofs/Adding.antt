@@ -1,20 +1,22 @@
 -- Items that come to the sections read so far.
-use Rattle.std.proofs.Common.{◌≡◌, ◌⊎◌, ℕ, zero, suc, ◌+◌, ◌<◌, ◌≤◌, List, [], ◌∷◌, ◌++◌, Result, Ok, Err, length, map, refl, sym, ap, ◌∙◌, subst, arith, inl, inr, ⊎_elim, length-append, OnOk, MatchResult}
+use Rattle.std.proofs.Common.{◌≡◌, ℕ, zero, suc, ◌<◌, ◌≤◌, List, [], ◌∷◌, ◌++◌, Result, Ok, Err, length, map, refl, sym, ap, subst, arith, ⊎_elim, length-append, OnOk, MatchResult}
 use Rattle.std.specs.List.{AllByRecursion, Contains}
 use Rattle.std.specs.Result.{IsErrAnd}
 use Rattle.std.proofs.lemmas.List.Elements.{Contains-append_cases}
 use Rattle.lj_base.specs.Cells.{Triple}
 use Rattle.lj_base.specs.Frames.{Top}
-use Rattle.lj_text.specs.Lines.{line_text}
+use Rattle.lj_text.specs.Lines.{after_line, line_text}
 use Rattle.lj_text.specs.declared.lines.Line.{Line}
 use Rattle.lj_script.specs.Items.{AddsItem, FitsBehind, HasRoom, IsItem, Item, new_client, new_command, with_command, with_item}
-use Rattle.lj_script.specs.Scripts.{AreCommands, AreSections, Begins, IsBody, IsCommand, IsReadUpTo, IsSection, IsWithin, Says, last_commands, words, words_of}
+use Rattle.lj_script.specs.Scripts.{AreCommands, AreSections, Begins, Completes, IsBody, IsCommand, IsReadUpTo, IsWithin, Says, last_commands, words, words_of}
 use Rattle.lj_script.specs.Values.{SectionValue}
 use Rattle.lj_script.specs.declared.forms.Form.{Form}
 use Rattle.lj_script.specs.declared.forms.Form.TheVariants.{Client, Upload as Offer, UploadFile as OfferFile, Ask}
 use Rattle.lj_script.specs.declared.scripts.Command.{Command}
 use Rattle.lj_script.specs.declared.scripts.Command.TheVariants.{Upload, UploadFile, Bound, Plan, Expand, Settle}
-use Rattle.lj_script.proofs.Searching.{AllByRecursion-append, AllByRecursion-behind}
+use Rattle.lj_script.specs.LineOrder.{StandFrom}
+use Rattle.lj_script.proofs.Searching.{AllByRecursion-append}
+use Rattle.lj_script.proofs.Standing.{StandFrom-behind, StandFrom-earlier}
 
 -- what is known of an `Ok` stays known behind a `map_err`
 pub OnOk-mapped : {T E F : Type 0} (P : Type 0) (Q : E → F → Type 0) (r : Result T E) (s : Result T F) → MatchResult r (λ x. s ≡ Ok x) (λ e. IsErrAnd s (Q e)) → OnOk r P → OnOk s P
@@ -164,25 +166,28 @@ IsReadUpTo-more {bytes} {frame} {before} {now} {lines} {rest} read adds =
 
 -- ---- what is left behind an item
 
-module _ (P : Line → Type 0) where
-  left_of_body : {bytes : List ℕ} {begin : Line} {lines rest : List Line} {body : List ℕ} → IsBody bytes begin lines body rest → AllByRecursion P lines → AllByRecursion P rest
-  left_of_body {bytes} {begin} {lines} {rest} {body} is h =
-      (AllByRecursion-behind P is.reaches.inner (is.end ∷ rest) (subst (AllByRecursion P) is.reaches.lines_are h)).1
+left_of_body : (bytes : List ℕ) (begin : Line) (place : ℕ) (lines : List Line) (body : List ℕ) (rest : List Line) → IsBody bytes begin lines body rest → StandFrom bytes place lines → StandFrom bytes 0 rest
+left_of_body bytes begin place lines body rest is h =
+    let behind = StandFrom-behind bytes place is.reaches.inner (is.end ∷ rest) (subst (StandFrom bytes place) is.reaches.lines_are h) in
+    StandFrom-earlier bytes (after_line bytes is.end) 0 rest (omega arith) behind.2
 
-  behind_first : {lines others : List Line} {first : Line} → lines ≡ first ∷ others → AllByRecursion P lines → AllByRecursion P others
-  behind_first {lines} {others} {first} is h = (subst (AllByRecursion P) is h).1
+behind_first : (bytes : List ℕ) (lines others : List Line) (first : Line) → lines ≡ first ∷ others → StandFrom bytes 0 lines → StandFrom bytes 0 others
+behind_first bytes lines others first is h =
+    let known = subst (StandFrom bytes 0) is h in
+    StandFrom-earlier bytes (after_line bytes first) 0 others (omega arith) known.2
 
-  left_of_command : (bytes : List ℕ) (c : Command) (lines rest : List Line) → IsCommand bytes c lines rest → AllByRecursion P lines → AllByRecursion P rest
-  left_of_command bytes (Upload c body) lines rest is h = left_of_body is.completes (behind_first is.begins.lines_are h)
-  left_of_command bytes (UploadFile body) lines rest is h = left_of_body is.completes (behind_first is.begins.lines_are h)
-  left_of_command bytes (Bound c) lines rest is h = subst (AllByRecursion P) is.completes (behind_first is.begins.lines_are h)
-  left_of_command bytes (Plan c) lines rest is h = subst (AllByRecursion P) is.completes (behind_first is.begins.lines_are h)
-  left_of_command bytes (Expand c) lines rest is h = subst (AllByRecursion P) is.completes (behind_first is.begins.lines_are h)
-  left_of_command bytes Settle lines rest is h = subst (AllByRecursion P) is.completes (behind_first is.begins.lines_are h)
+left_of_command : (bytes : List ℕ) (c : Command) (first : Line) (others rest : List Line) → Completes bytes c first others rest → StandFrom bytes 0 others → StandFrom bytes 0 rest
+left_of_command bytes (Upload c body) first others rest is h = left_of_body bytes first 0 others body rest is h
+left_of_command bytes (UploadFile body) first others rest is h = left_of_body bytes first 0 others body rest is h
+left_of_command bytes (Bound c) first others rest is h = subst (StandFrom bytes 0) is h
+left_of_command bytes (Plan c) first others rest is h = subst (StandFrom bytes 0) is h
+left_of_command bytes (Expand c) first others rest is h = subst (StandFrom bytes 0) is h
+left_of_command bytes Settle first others rest is h = subst (StandFrom bytes 0) is h
 
-  pub left_of_item : (bytes : List ℕ) (item : Item) (lines rest : List Line) → IsItem bytes item lines rest → AllByRecursion P lines → AllByRecursion P rest
-  left_of_item bytes (new_client name) lines rest is h = behind_first is.1.lines_are h
-  left_of_item bytes (new_command c) lines rest is h = left_of_command bytes c lines rest is h
+pub left_of_item : (bytes : List ℕ) (item : Item) (lines rest : List Line) → IsItem bytes item lines rest → StandFrom bytes 0 lines → StandFrom bytes 0 rest
+left_of_item bytes (new_client name) lines rest is h = behind_first bytes lines rest is.0 is.1.lines_are h
+left_of_item bytes (new_command c) lines rest is h =
+    left_of_command bytes c is.first is.others rest is.completes (behind_first bytes lines is.others is.first is.begins.lines_are h)
 
 shorter_body : {bytes : List ℕ} {begin : Line} {lines rest : List Line} {body : List ℕ} → IsBody bytes begin lines body rest → length rest ≤ length lines
 shorter_body {bytes} {begin} {lines} {rest} {body} is = omega (arith, ap length is.reaches.lines_are, length-append is.reaches.inner (is.end ∷ rest))

@@ -1,12 +1,12 @@
 -- Bytes spell one script, or have one fault.
-use Rattle.std.proofs.Common.{◌≡◌, ◌⊎◌, ℕ, ◌+◌, ◌<◌, ◌≤◌, List, [], ◌∷◌, ◌++◌, Result, Ok, Err, MatchResult, IfErr, IfOk, codes, length, refl, sym, ap, ◌∙◌, subst, arith, inl, inr, ⊎_elim}
+use Rattle.std.proofs.Common.{◌≡◌, ◌⊎◌, ℕ, ◌<◌, List, [], ◌∷◌, length, refl, sym, ap, ◌∙◌, subst, arith, inl, inr, ⊎_elim}
 use Rattle.std.specs.List.{AllByRecursion, Contains}
 use Rattle.lj_base.specs.Cells.{Triple}
 use Rattle.lj_base.specs.Frames.{Top}
 use Rattle.lj_text.specs.Lines.{text_lines}
 use Rattle.lj_text.specs.declared.lines.Line.{Line}
 use Rattle.lj_script.specs.Items.{FitsBehind, IsItem, Item, new_client, new_command}
-use Rattle.lj_script.specs.Scripts.{Asks, Follows, IsBody, IsEnd, IsFaulty, IsFaultyBehind, IsFrameFault, IsFrameLine, IsReadUpTo, IsScript, IsScriptFault, LacksFrame, Says, SaysCommand, SaysUpload, SpoilsFrame, StartsWith, last_commands, words}
+use Rattle.lj_script.specs.Scripts.{Follows, IsBody, IsEnd, IsFaulty, IsFaultyBehind, IsFrameFault, IsFrameLine, IsReadUpTo, IsScript, IsScriptFault, LacksFrame, Says, SaysCommand, SaysUpload, SpoilsFrame, last_commands, words}
 use Rattle.lj_script.specs.Values.{ScriptValue, SectionValue}
 use Rattle.lj_script.specs.declared.faults.ScriptFault.{ScriptFault}
 use Rattle.lj_script.specs.declared.faults.ScriptFault.TheVariants.{NoFrame, BadLine, BadFrame, Unended, TooManyClients, TooManyCommands, Memory}

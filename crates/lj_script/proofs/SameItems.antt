@@ -4,9 +4,9 @@ use Rattle.std.specs.List.{AllByRecursion}
 use Rattle.lj_text.specs.Lines.{after_line}
 use Rattle.lj_text.specs.declared.lines.Line.{Line}
 use Rattle.lj_script.specs.Items.{IsItem, Item, new_client, new_command}
-use Rattle.lj_script.specs.Scripts.{Begins, Completes, IsBody, IsEnd, Says, form_of, words}
+use Rattle.lj_script.specs.Scripts.{Completes, IsBody, IsEnd, Says, form_of, words}
 use Rattle.lj_script.specs.declared.forms.Form.{Form}
-use Rattle.lj_script.specs.declared.forms.Form.TheVariants.{Client, Upload as Offer, UploadFile as OfferFile, Ask}
+use Rattle.lj_script.specs.declared.forms.Form.TheVariants.{Client}
 use Rattle.lj_script.specs.declared.scripts.Command.{Command}
 use Rattle.lj_script.specs.declared.scripts.Command.TheVariants.{Upload, UploadFile, Bound, Plan, Expand, Settle}
 use Rattle.lj_script.proofs.Unique.{same_form}

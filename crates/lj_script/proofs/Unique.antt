@@ -1,5 +1,5 @@
 -- A line has one form at most.
-use Rattle.std.proofs.Common.{◌≡◌, ℕ, false, List, [], ◌∷◌, Some, codes, refl, sym, ap, ◌∙◌}
+use Rattle.std.proofs.Common.{◌≡◌, ℕ, false, List, [], ◌∷◌, codes, refl, ap, ◌∙◌}
 use Rattle.std.proofs.lemmas.Bool.{both_ways}
 use Rattle.std.proofs.lemmas.Slice.Eq.{bytes_eq-Decides}
 use Rattle.std.specs.Str.{bytes_eq}
@@ -8,7 +8,6 @@ use Rattle.lj_text.specs.Numbers.{number_of}
 use Rattle.lj_script.specs.Scripts.{NamesCell, Says, StartsWith}
 use Rattle.lj_script.specs.declared.forms.Form.{Form}
 use Rattle.lj_script.specs.declared.forms.Form.TheVariants.{Client, Upload as Offer, UploadFile as OfferFile, Ask}
-use Rattle.lj_script.specs.declared.scripts.Command.{Command}
 use Rattle.lj_script.specs.declared.scripts.Command.TheVariants.{Upload, UploadFile, Bound, Plan, Expand, Settle}
 
 same_numbers : (c d : Triple) → c.v ≡ d.v → c.k ≡ d.k → c.t ≡ d.t → c ≡ d

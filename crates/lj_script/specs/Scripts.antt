@@ -1,5 +1,5 @@
 -- Scripts: a frame, and for each client a section of commands. The grammar goes by the lines that are not blank, and by their words.
-use Rattle.std.specs.Prelude.{◌≡◌, ℕ, suc, ◌+◌, ◌<◌, ◌≤◌, ◌⊎◌, List, [], ◌∷◌, ◌++◌, Some, codes, length, map, slice_range}
+use Rattle.std.specs.Prelude.{◌≡◌, ℕ, ◌<◌, ◌≤◌, ◌⊎◌, List, [], ◌∷◌, ◌++◌, Some, codes, length, map, slice_range}
 use Rattle.std.specs.List.{AllByRecursion, Contains}
 use Rattle.lj_base.specs.Cells.{IsCell, Triple}
 use Rattle.lj_base.specs.Frames.{Top}

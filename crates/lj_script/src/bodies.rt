@@ -1,6 +1,7 @@
-ghost use Rattle.std.specs.Prelude.{◌≡◌, ◌⊎◌, ◌↔◌, ◌≤◌, [], ◌∷◌, IfErr, IfNone, IfOk, IfSome, IsTrue, codes, length};
+ghost use Rattle.std.specs.Prelude.{◌≡◌, ◌⊎◌, ◌↔◌, ◌≤◌, [], ◌∷◌, IfErr, IfNone, IfOk, IfSome, IsTrue, codes, length, slice_range};
 ghost use Rattle.std.specs.List.{AllByRecursion};
-ghost use Rattle.lj_text.specs.Lines.{IsLineOf, line_text};
+ghost use Rattle.lj_text.specs.Lines.{IsLineOf, after_line, line_text};
+ghost use Rattle.lj_script.specs.LineOrder.{StandFrom};
 ghost use Rattle.lj_script.specs.Scripts.{GoTo, IsBody, IsEnd, words_of};
 
 use crate::faults::ScriptFault;
@@ -18,7 +19,7 @@ pub(crate) fn read_body(
     rest: &mut Lines,
 ) -> Result<Body, ScriptFault>
     requires line { IsLineOf bytes.now line.now }
-    requires rest { AllByRecursion (IsLineOf bytes.now) rest.old }
+    requires rest { StandFrom bytes.now (after_line bytes.now line.now) rest.old }
     ensures body { IfOk result (λ body. IsBody bytes.now line.now rest.old body rest.new) }
     ensures fault { IfErr result (λ fault. (fault ≡ ScriptFault.Memory)
         ⊎ ((fault ≡ ScriptFault.Unended line.now.number) × AllByRecursion (λ later. IsEnd bytes.now later → ⊥) rest.old)) }
@@ -26,11 +27,20 @@ pub(crate) fn read_body(
     let Some(end) = find_end(bytes, rest) else {
         return Err(ScriptFault::Unended { line: line.number });
     };
-    let start = after_line(bytes, line).min(end.start);
-    match bytes[start as usize..end.start as usize].to_vec(alloc) {
+    match between(bytes, line, &end).to_vec(alloc) {
         Ok(body) => Ok(Body::of(body)),
         Err(_) => Err(ScriptFault::Memory),
     }
+}
+
+// What stands behind a line and before a later one.
+fn between<'a>(bytes: &'a [u8], line: &Line, later: &Line) -> &'a [u8]
+    requires line { IsLineOf bytes.now line.now }
+    requires later { IsLineOf bytes.now later.now }
+    requires order { after_line bytes.now line.now ≤ later.now.start }
+    ensures { result.now ≡ slice_range bytes.now (after_line bytes.now line.now) later.now.start }
+{
+    &bytes[after_line(bytes, line) as usize..later.start as usize]
 }
 
 // Goes up to the first line that ends a body.

@@ -1,6 +1,7 @@
 ghost use Rattle.std.specs.Prelude.{◌≡◌, ◌⊎◌, ◌≤◌, ◌∷◌, IfErr, IfOk, MatchResult, OnOk, length};
 ghost use Rattle.std.specs.List.{AllByRecursion};
 ghost use Rattle.lj_text.specs.Lines.{IsLineOf};
+ghost use Rattle.lj_script.specs.LineOrder.{StandFrom};
 ghost use Rattle.lj_script.specs.Items.{AddsItem, TakesFrame};
 ghost use Rattle.lj_script.specs.Scripts.{IsFaulty, IsFrameFault, IsScript, IsScriptFault};
 ghost use Rattle.lj_script.specs.Values.{ScriptValue};
@@ -68,8 +69,7 @@ fn read_item(
     rest: &mut Lines,
     sections: &mut Vec<Section>,
 ) -> Result<(), ScriptFault>
-    requires line { IsLineOf bytes.now line.now }
-    requires rest { AllByRecursion (IsLineOf bytes.now) rest.old }
+    requires lines { StandFrom bytes.now 0 (line.now ∷ rest.old) }
     requires few { length sections.old.items ≤ 16 }
     ensures item { OnOk result (AddsItem bytes.now (line.now ∷ rest.old) rest.new sections.old.items sections.new.items) }
     ensures fault { IfErr result (λ fault. (fault ≡ ScriptFault.Memory) ⊎ IsFaulty bytes.now sections.old.items line.now rest.old fault) }

@@ -1,5 +1,4 @@
-use Rattle.std.proofs.Common.{arith, ◌≡◌, ◌+◌, ◌-◌, Some, length, refl, sym, ap, ◌∙◌, get_or, slice_get}
-use Rattle.std.proofs.lemmas.Option.{get_or_from_slice_get}
+use Rattle.std.proofs.Common.{arith, length, refl, sym, ap}
 use Rattle.lj_script.proofs.LastSections.{last_commands-in, some-in}
 use Rattle.lj_script.proofs.growing.check_room.Goals as goal
 

@@ -1,4 +1,4 @@
-use Rattle.std.proofs.Common.{arith, ◌≡◌, ◌+◌, ◌-◌, ◌∷◌, ◌++◌, [], length, ap, sym, ◌∙◌, get_or, set}
+use Rattle.std.proofs.Common.{arith, ◌≡◌, ◌+◌, ◌-◌, ◌∷◌, ◌++◌, [], length, ap, sym, ◌∙◌, set}
 use Rattle.std.proofs.lemmas.Result.{on_ok_weaker}
 use Rattle.lj_script.specs.Values.{SectionValue}
 use Rattle.lj_script.proofs.Adding.{OnOk-mapped}

@@ -1,5 +1,4 @@
-use Rattle.std.proofs.Common.{◌≡◌, List, ◌∷◌, codes, refl, sym, ap, ◌∙◌, subst}
-use Rattle.lj_text.specs.declared.lines.Line.{Line}
+use Rattle.std.proofs.Common.{◌≡◌, ◌∷◌, codes, refl, sym, ap, ◌∙◌, subst}
 use Rattle.lj_script.specs.Scripts.{NamesCell, SpoilsFrame, words, words_of}
 use Rattle.lj_script.proofs.reading.read_frame.Goals as goal
 

@@ -1,21 +1,41 @@
-use Rattle.std.proofs.Common.{◌≡◌, List, [], ◌∷◌, arith, ◌∙◌, sym, subst}
+use Rattle.std.proofs.Common.{◌≡◌, [], arith, refl, ◌∙◌, sym, subst}
 use Rattle.std.proofs.lemmas.Grind.{common_steps}
 use Rattle.std.proofs.lemmas.Result.{err_from_is_err_and}
 use Rattle.std.specs.List.{AllByRecursion}
-use Rattle.lj_text.specs.Lines.{IsLineOf}
-use Rattle.lj_script.specs.Scripts.{IsReadUpTo, IsScript, IsScriptFault}
-use Rattle.lj_script.specs.Values.{ScriptValue, SectionValue}
+use Rattle.lj_text.specs.Lines.{IsLineOf, after_line}
+use Rattle.lj_script.specs.LineOrder.{StandFrom}
+use Rattle.lj_script.specs.Scripts.{IsReadUpTo}
 use Rattle.lj_script.proofs.Adding.{IsReadUpTo-more, left_of_item}
 use Rattle.lj_script.proofs.OneReading.{IsScriptFault-behind, IsScriptFault-frame, not_script, only_memory, same_script, told_or_memory}
+use Rattle.lj_script.proofs.Standing.{StandFrom-earlier, StandFrom-text_lines}
 use Rattle.lj_script.proofs.reading.read_script.Goals as goal
+
+pub loop-line-init : goal.loop-line-init
+loop-line-init c =
+    let bytes = c.args.bytes.now in
+    let read = c.in_ok-frame.ensures.frame in
+    let lines = sym c.of-lines.ensures.walk ∙ read.lines_are in
+    let all = StandFrom-text_lines bytes (subst (AllByRecursion (IsLineOf bytes)) c.of-lines.ensures.walk c.of-lines.ensures.inside) in
+    let known = subst (StandFrom bytes 0) lines all in
+    record {
+      read = record {
+        first = read.first;
+        others = c.read_frame.new.lines;
+        lines_are = lines;
+        names_frame = read.names_frame;
+        are_sections = rw c.new-sections.ensures.items refl;
+        within = rw c.new-sections.ensures.items (omega arith, tt);
+      };
+      inside = StandFrom-earlier bytes (after_line bytes read.first) 0 c.read_frame.new.lines (omega arith) known.2;
+    }
 
 pub loop-line-preserved : goal.loop-line-preserved
 loop-line-preserved c =
     let bytes = c.args.bytes.now in
     let adds = c.in_ok-read_item.ensures.item in
     let read = subst (λ ls. IsReadUpTo bytes c.in_ok-frame.frame c.loop-line.sections.items ls) c.in-Some.ensures.steps c.loop-line.invariant.read in
-    let inside = subst (AllByRecursion (IsLineOf bytes)) c.in-Some.ensures.steps c.loop-line.invariant.inside in
-    record { read = IsReadUpTo-more read adds; inside = left_of_item (IsLineOf bytes) bytes adds.item _ _ adds.is inside }
+    let inside = subst (StandFrom bytes 0) c.in-Some.ensures.steps c.loop-line.invariant.inside in
+    record { read = IsReadUpTo-more read adds; inside = left_of_item bytes adds.item _ _ adds.is inside }
 
 pub returns-in_err-frame-clause-complete : goal.returns-in_err-frame-clause-complete
 returns-in_err-frame-clause-complete c =
