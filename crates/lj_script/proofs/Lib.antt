@@ -1,0 +1,9 @@
+pub mod Adding
+pub mod LastSections
+pub mod Names
+pub mod SameItems
+pub mod OneReading
+pub mod Paths
+pub mod Searching
+pub mod Standing
+pub mod Unique
