@@ -116,6 +116,14 @@ pub record IsValid (uploads : List Upload) (rules : List Rule) (r : Rule) : Type
   pub fitting : root_cells (trees_at (trees_of uploads rules) (children_of uploads r)) ≡ rule_children (rule_of uploads (trees_of uploads rules) r)
   pub small : tree_cost (build uploads (trees_of uploads rules) r) < 2 ^ 38
 
+-- the rule of the node with this number
+abbrev pub rule_at : List Rule → ℕ → Rule
+rule_at rules i = get_or rules i (OneNode (triple 0 0 0))
+
+-- each rule may follow those before it
+abbrev pub AreValid : List Upload → List Rule → Type 0
+AreValid uploads rules = (i : ℕ) → i < length rules → IsValid uploads (take i rules) (rule_at rules i)
+
 -- an arena, as its contracts see it
 pub record Nodes : Type 0 where
   pub frame : Top
@@ -138,10 +146,6 @@ step_tree p i = tree_at (trees_of p.uploads p.rules) i
 -- the derivation of the plan: that of its last node
 abbrev pub plan_tree : Steps → Tree
 plan_tree p = step_tree p (length p.rules - 1)
-
--- the rule of a step
-abbrev pub rule_at : List Rule → ℕ → Rule
-rule_at rules i = get_or rules i (OneNode (triple 0 0 0))
 
 -- the plan holds just nodes that the root reaches, in the order of their numbers in the arena, each with its own derivation,
 -- and just the uploads that they name
