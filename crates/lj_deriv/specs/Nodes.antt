@@ -107,6 +107,21 @@ IsShaped uploads (AddNode i) = Unit {0}
 IsShaped uploads (GrowNode i) = Unit {0}
 IsShaped uploads (LowerNode i) = Unit {0}
 
+-- an induced node's cell has no more points than its upload
+abbrev pub IsNarrow : List Upload → Rule → Type 0
+IsNarrow uploads (InducedNode c u children) = c.v ≤ (upload_at uploads u).cell.v
+IsNarrow uploads (OneNode c) = Unit {0}
+IsNarrow uploads (RunsNode c) = Unit {0}
+IsNarrow uploads (AllNode c) = Unit {0}
+IsNarrow uploads (LeafNode u) = Unit {0}
+IsNarrow uploads (DerivedNode u x) = Unit {0}
+IsNarrow uploads (Derived2Node u x y) = Unit {0}
+IsNarrow uploads (DropNode i) = Unit {0}
+IsNarrow uploads (AddNode i) = Unit {0}
+IsNarrow uploads (GrowNode i) = Unit {0}
+IsNarrow uploads (LowerNode i) = Unit {0}
+IsNarrow uploads (ProductNode c v1 parts count) = Unit {0}
+
 -- a rule may follow these nodes: what it names is there, with its children it is a rule's use as the table of rules allows, and it costs less than 2^38
 pub record IsValid (uploads : List Upload) (rules : List Rule) (r : Rule) : Type 0 where
   pub shaped : IsShaped uploads r

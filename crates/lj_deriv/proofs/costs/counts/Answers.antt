@@ -1,0 +1,3 @@
+use Rattle.lj_deriv.proofs.costs.counts.Goals as goal
+pub returns : goal.returns
+returns c = ?
