@@ -1,1 +1,4 @@
 pub mod Padding
+pub mod Cuts
+pub mod Counts
+pub mod Degrees

@@ -1,6 +1,13 @@
-//! Uploads that were accepted, with the numbers that their rules ask for, and how many a client may hold.
+//! Uploads that were accepted, with what their rules ask of them, and the quota of uploads and blocks.
 #![tactic(auto)]
 
+mod accepted;
+mod least;
 mod names;
+mod quotas;
+mod summaries;
+mod tables;
 
+pub use accepted::Accepted;
 pub use names::Name;
+pub use quotas::{Quota, QuotaFull};
