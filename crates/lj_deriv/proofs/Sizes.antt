@@ -1,12 +1,11 @@
 -- The sizes of an upload's cuts, found from their counts.
-use Rattle.std.proofs.Common.{◌≡◌, ℕ, zero, suc, ◌+◌, ◌-◌, ◌<◌, ◌≤◌, Bool, true, false, cond, eqb, ◌||◌, ◌⊎◌, List, [], ◌∷◌, ◌++◌, length, map, take, get_or, refl, sym, ap, ap₂, ◌∙◌, subst, arith, append-nil, ⊎_elim, inl, inr}
-use Rattle.std.proofs.lemmas.Bool.{cond-false, cond-true, cases_lt, false≢true, eq-eqb, ne_eqb, leb-false}
-use Rattle.std.proofs.lemmas.List.{get_or-map}
+use Rattle.std.proofs.Common.{◌≡◌, ℕ, zero, suc, ◌+◌, ◌-◌, ◌<◌, ◌≤◌, Bool, true, false, cond, eqb, ◌||◌, ◌⊎◌, List, [], ◌∷◌, ◌++◌, length, map, get_or, refl, sym, ap, ◌∙◌, subst, arith, append-nil, ⊎_elim, inl, inr}
+use Rattle.std.proofs.lemmas.Bool.{cond-false, cond-true, cases_lt, false≢true, ne_eqb}
 use Rattle.std.proofs.lemmas.List.Elements.{filter-append}
 use Rattle.std.proofs.lemmas.List.FromFn.{get_or-map-range_with_len}
 use Rattle.std.proofs.lemmas.List.Sums.{sum_by-cons}
 use Rattle.std.specs.List.{AllByRecursion, count_by, filter, list_any, range_with_len}
-use Rattle.lj_base.specs.Blocks.{AreBlocks, IsBlock}
+use Rattle.lj_base.specs.Blocks.{AreBlocks}
 use Rattle.lj_cover.specs.BlockLists.{cut_sizes}
 use Rattle.lj_cover.specs.Instances.{cut_counts}
 use Rattle.lj_cover.specs.Operations.{cut}

@@ -4,9 +4,9 @@ use Rattle.std.specs.Prelude.{◌≡◌, ℕ, suc, ◌+◌, ◌-◌, ◌^◌, �
 use Rattle.std.specs.List.{AllByRecursion, Contains, flat_map}
 use Rattle.std.proofs.Math.ListN.{get_or}
 use Rattle.lj_base.specs.Blocks.{Ascends}
-use Rattle.lj_base.specs.Frames.{InFrame, Top}
+use Rattle.lj_base.specs.Frames.{Top}
 use Rattle.lj_cover.specs.BlockLists.{cut_sizes}
-use Rattle.lj_cover.specs.Derivations.{IsDerivation, IsFrom, IsIn, IsSound, Tree, Trees, node, none, more, root_cell, root_cells, tree_cost}
+use Rattle.lj_cover.specs.Derivations.{IsSound, Tree, Trees, node, none, more, root_cell, root_cells, tree_cost}
 use Rattle.lj_cover.specs.Rules.{One, Runs, All, Leaf, Derived, Derived2, Drop, Add, Grow, Lower, Product, Induced, Part, Upload, rule_children, triple}
 use Rattle.lj_cover.specs.Rules.{Rule as TreeRule}
 use Rattle.lj_deriv.specs.declared.rules.Part.{Part as StoredPart}

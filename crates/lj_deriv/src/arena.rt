@@ -7,10 +7,11 @@ ghost use Rattle.lj_cover.specs.Instances.{cut_counts, row_price};
 ghost use Rattle.lj_deriv.specs.Nodes.{AreValid, IsShaped, IsValid, build, children_of, node_tree, rule_at, rule_of, sizes_of, trees_at, trees_of, upload_at, uploads_of};
 
 use crate::cells::{added, dropped, grown, lessened, lowered};
-use crate::costs::{counts, pair_degree, runs_cost};
+use crate::costs::{pair_degree, runs_cost};
 use crate::rules::{Part, Rule};
 use lj_base::{Cell, Frame, Memory, binom};
 use lj_cover::degree;
+use lj_cover::laws::price_by_row;
 use lj_upload::Accepted;
 use std::alloc::Global;
 use std::marker::Model;
@@ -205,6 +206,7 @@ impl Arena {
         requires { IsValid self.now.uploads self.now.rules rule.now }
         ensures { result ≡ tree_cost (build self.now.uploads (trees_of self.now.uploads self.now.rules) rule.now) }
     {
+        price_by_row();
         match rule {
             Rule::One { .. } => 1,
             Rule::Runs { cell } => runs_cost(*cell),
@@ -250,7 +252,7 @@ impl Arena {
         requires small { row_price (λ c. tree_cost (node_tree self.now (slice_index children.now c.v))) cell (cut_counts cell.v up.now.blocks) < 2 ^ 38 }
         ensures { result ≡ row_price (λ c. tree_cost (node_tree self.now (slice_index children.now c.v))) cell (cut_counts cell.v up.now.blocks) }
     {
-        let counts = counts(up, cell.v);
+        let counts = up.counts(u64::from(cell.v));
         let mut cost = 0;
         for l in 0..26u64 {
             let count = counts[l as usize];

@@ -2,7 +2,6 @@ ghost use Rattle.std.specs.Prelude.{◌≡◌, ◌<◌, ◌≤◌, [], ◌∷◌
 ghost use Rattle.std.specs.List.{AllByRecursion, flat_map};
 ghost use Rattle.lj_deriv.specs.Nodes.{sizes_of};
 
-use crate::costs::counts;
 use crate::numbers::Numbers;
 use crate::rules::Part;
 use lj_base::Cell;
@@ -41,7 +40,7 @@ pub fn cut_sizes(up: &Accepted, cell: Cell) -> Numbers
     ensures few { length (sizes_of up.now cell.k cell.v) ≤ 25 }
 {
     let _design = up.design();
-    let counts = counts(up, cell.v);
+    let counts = up.counts(u64::from(cell.v));
     let mut sizes = Numbers::none();
     for l in u64::from(cell.k) + 1..26 {
         if counts[l as usize] > 0 {

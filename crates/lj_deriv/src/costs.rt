@@ -2,11 +2,9 @@ ghost use Rattle.std.specs.Prelude.{◌≡◌, ◌≤◌, ◌&&◌, ◌↔◌, I
 ghost use Rattle.std.specs.List.{count_by};
 ghost use Rattle.lj_base.specs.Blocks.{Has};
 ghost use Rattle.lj_cover.specs.BlockLists.{ceil_div};
-ghost use Rattle.lj_cover.specs.Instances.{cut_counts};
 ghost use Rattle.lj_cover.specs.Operations.{has_point};
 
 use lj_base::{Block, Cell};
-use lj_upload::Accepted;
 
 /// How many runs of `k` points reach each of `v`.
 pub fn runs_cost(cell: Cell) -> u64
@@ -34,12 +32,4 @@ fn has_both(block: &Block, x: u8, y: u8) -> bool
     ensures { IsTrue result ↔ (Has block.now x × Has block.now y) }
 {
     block.has(x) && block.has(y)
-}
-
-/// TEMPORARY
-pub fn counts(up: &Accepted, w: u8) -> [u32; 26]
-    requires { w ≤ up.now.cell.v }
-    ensures { result ≡ cut_counts w up.now.blocks }
-{
-    [0; 26]
 }

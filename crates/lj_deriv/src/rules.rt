@@ -22,20 +22,52 @@ pub struct Part {
 /// A node's rule. A child is a node's number, an upload its place among the uploads held.
 #[derive(Clone, Copy, Debug, PartialEq, Eq)]
 pub enum Rule {
-    One { cell: Cell },
-    Runs { cell: Cell },
-    All { cell: Cell },
-    Leaf { upload: u32 },
-    Derived { upload: u32, point: u8 },
-    Derived2 { upload: u32, first: u8, second: u8 },
-    Drop { child: u64 },
-    Add { child: u64 },
-    Grow { child: u64 },
-    Lower { child: u64 },
+    One {
+        cell: Cell,
+    },
+    Runs {
+        cell: Cell,
+    },
+    All {
+        cell: Cell,
+    },
+    Leaf {
+        upload: u32,
+    },
+    Derived {
+        upload: u32,
+        point: u8,
+    },
+    Derived2 {
+        upload: u32,
+        first: u8,
+        second: u8,
+    },
+    Drop {
+        child: u64,
+    },
+    Add {
+        child: u64,
+    },
+    Grow {
+        child: u64,
+    },
+    Lower {
+        child: u64,
+    },
     /// Of the parts the first `count` have a meaning.
-    Product { cell: Cell, v1: u8, parts: [Part; 9], count: u8 },
+    Product {
+        cell: Cell,
+        v1: u8,
+        parts: [Part; 9],
+        count: u8,
+    },
     /// The child for the cuts of `l` points stands at place `l`; the other places have no meaning.
-    Induced { cell: Cell, upload: u32, children: [u64; 26] },
+    Induced {
+        cell: Cell,
+        upload: u32,
+        children: [u64; 26],
+    },
 }
 
 impl Rule {
@@ -60,9 +92,16 @@ impl Rule {
         ensures { result ≡ children_of uploads.now self.now }
     {
         match self {
-            Rule::Drop { child } | Rule::Add { child } | Rule::Grow { child } | Rule::Lower { child } => Numbers::one(*child),
+            Rule::Drop { child }
+            | Rule::Add { child }
+            | Rule::Grow { child }
+            | Rule::Lower { child } => Numbers::one(*child),
             Rule::Product { parts, count, .. } => product_children(parts, *count),
-            Rule::Induced { cell, upload, children } => induced_children(&uploads[*upload as usize], *cell, children),
+            Rule::Induced {
+                cell,
+                upload,
+                children,
+            } => induced_children(&uploads[*upload as usize], *cell, children),
             _ => Numbers::none(),
         }
     }

@@ -1,8 +1,7 @@
-use Rattle.std.proofs.Common.{◌≡◌, ◌∙◌, ◌+◌, ◌-◌, ◌<◌, ◌≤◌, suc, true, false, [], ◌∷◌, ◌++◌, length, get_or, ap, arith, subst, sym}
+use Rattle.std.proofs.Common.{◌≡◌, ◌∙◌, ◌+◌, ◌-◌, ◌≤◌, suc, true, false, [], ◌∷◌, ◌++◌, length, get_or, ap, arith, sym}
 use Rattle.std.proofs.lemmas.List.{length_push}
-use Rattle.std.specs.List.{AllByRecursion, filter, range_with_len}
+use Rattle.std.specs.List.{filter, range_with_len}
 use Rattle.lj_base.specs.Cells.{Triple}
-use Rattle.lj_cover.specs.BlockLists.{cut_sizes}
 use Rattle.lj_cover.specs.Instances.{cut_counts}
 use Rattle.lj_deriv.proofs.Sizes.{cut_sizes-below, cut_sizes-small, filter-no, filter-yes, is_size, is_size-none, is_size-some}
 use Rattle.lj_deriv.proofs.children.cut_sizes.Goals as goal
@@ -19,7 +18,7 @@ loop-l-preserved c =
     let from : suc k ≤ l = omega (arith, same, c.loop-l.auto.l, c.from-l.ensures) in
     let next : l + 1 - suc k ≡ l - suc k + 1 = omega arith in
     let place : suc k + (l - suc k) ≡ l = omega arith in
-    let counts : c.counts-counts.result ≡ cut_counts w bs = c.counts-counts.ensures ∙ ap (λ (x : Triple). cut_counts x.v bs) c.cell.view_is in
+    let counts : c.counts-counts.result ≡ cut_counts w bs = c.counts-counts.ensures ∙ ap (λ n. cut_counts n bs) (c.from.ensures ∙ ap (λ (x : Triple). x.v) c.cell.view_is) in
     let count = ap (λ xs. get_or xs l 0) counts in
     elim c.if-counts-l-gt0.branch [
       | then-counts-l-gt0 w' ↦

@@ -1,4 +1,4 @@
-use Rattle.std.proofs.Common.{◌≡◌, ℕ, ◌<◌, ◌++◌, [], ◌∷◌, length, ap, subst, sym}
+use Rattle.std.proofs.Common.{◌≡◌, ℕ, ◌<◌, length, ap, subst, sym}
 use Rattle.lj_deriv.specs.Nodes.{Nodes, node_tree, tree_at}
 use Rattle.lj_deriv.specs.Stored.{rules_of}
 use Rattle.lj_deriv.proofs.Storing.{AreStored-upload}

@@ -1,4 +1,4 @@
-use Rattle.std.proofs.Common.{◌≡◌, ◌<◌, length, arith, subst, sym}
+use Rattle.std.proofs.Common.{◌<◌, length, arith, subst, sym}
 use Rattle.lj_deriv.specs.Nodes.{Nodes}
 use Rattle.lj_deriv.specs.Stored.{rules_of}
 use Rattle.lj_deriv.proofs.Storing.{IsStep-read, length-rules_of}

@@ -1,3 +1,0 @@
-use Rattle.lj_deriv.proofs.costs.counts.Goals as goal
-pub returns : goal.returns
-returns c = ?
