@@ -1,0 +1,10 @@
+pub mod CopySteps
+pub mod Marking
+pub mod Outcomes
+pub mod NewNumbers
+pub mod Places
+pub mod Pricing
+pub mod Sizes
+pub mod Storing
+pub mod Trees
+pub mod Validity
