@@ -1,0 +1,279 @@
+ghost use Rattle.std.specs.Prelude.{◌≡◌, ℕ, ◌+◌, ◌-◌, ◌<◌, ◌≤◌, ◌^◌, [], ◌∷◌, ◌++◌, length, map, slice_index, IfOk, OnErr, OnOk};
+ghost use Rattle.std.specs.List.{AllByRecursion, flat_map};
+ghost use Rattle.lj_base.specs.Frames.{InFrame};
+ghost use Rattle.lj_cover.specs.Derivations.{IsDerivation, IsFrom, IsIn, IsSound, root_cell, root_cells, tree_cost, tree_costs};
+ghost use Rattle.lj_cover.specs.Rules.{IsCovering, cut_cost, rule_children, sum_of_products};
+ghost use Rattle.lj_cover.specs.Instances.{cut_counts, row_price};
+ghost use Rattle.lj_deriv.specs.Nodes.{AreValid, IsShaped, IsValid, build, children_of, node_tree, rule_at, rule_of, sizes_of, trees_at, trees_of, upload_at, uploads_of};
+
+use crate::cells::{added, dropped, grown, lessened, lowered};
+use crate::costs::{pair_degree, runs_cost};
+use crate::rules::{Part, Rule};
+use lj_base::{Cell, Frame, Memory, binom};
+use lj_cover::degree;
+use lj_cover::laws::price_by_row;
+use lj_upload::Accepted;
+use std::alloc::Global;
+use std::marker::Model;
+
+// A node, with the cell and the cost of its derivation.
+#[derive(Clone, Copy)]
+struct Node {
+    rule: Rule,
+    cell: Cell,
+    cost: u64,
+}
+
+/// Accepted uploads, and nodes that derive coverings from them. It only grows.
+#[derive(Drop)]
+pub struct Arena {
+    frame: Frame,
+    uploads: Vec<Accepted>,
+    nodes: Vec<Node>,
+    spare: u64,
+}
+
+impl Model for Arena {
+    ghost use Rattle.std.specs.Prelude.{vec_capacity, vec_len};
+    ghost use Rattle.lj_deriv.specs.Nodes.{Nodes};
+
+    ghost Value = { Nodes };
+
+    ghost use Rattle.lj_deriv.specs.Stored.{AreStored, HasRoom, rules_of};
+
+    ghost view = { λ a. record { frame = a.frame; uploads = a.uploads.items; rules = rules_of a.nodes.items; spare = a.spare } };
+
+    ghost invariant = { λ a. AreStored a.frame a.uploads.items a.nodes.items × HasRoom (vec_len a.nodes) a.spare (vec_capacity a.nodes) };
+}
+
+impl Arena {
+    /// An arena with no uploads and no nodes. It takes no memory.
+    pub fn new(alloc: Global, frame: Frame) -> Arena
+        ensures { result ≡ record { frame = frame; uploads = []; rules = []; spare = 0 } }
+    {
+        Arena {
+            frame,
+            uploads: Vec::new(alloc),
+            nodes: Vec::new(alloc),
+            spare: 0,
+        }
+    }
+
+    pub fn frame(&self) -> Frame
+        ensures { result ≡ self.now.frame }
+    {
+        self.frame
+    }
+
+    pub fn uploads(&self) -> &[Accepted]
+        ensures { result.now ≡ self.now.uploads }
+    {
+        &self.uploads
+    }
+
+    /// The number of its nodes.
+    pub fn len(&self) -> u64
+        ensures len { result ≡ length self.now.rules }
+        ensures bounded { length self.now.rules + self.now.spare ≤ 2 ^ 59 }
+    {
+        self.nodes.len() as u64
+    }
+
+    /// How many nodes can be added without taking memory.
+    pub fn spare(&self) -> u64
+        ensures { result ≡ self.now.spare }
+    {
+        self.spare
+    }
+
+    /// Appends an upload, and answers its place from 0.
+    pub fn push_upload(&mut self, up: Accepted) -> Result<u32, Memory>
+        requires inside { InFrame self.old.frame up.cell }
+        requires few { length self.old.uploads < 2 ^ 32 }
+        ensures place { IfOk result (λ u. u ≡ length self.old.uploads) }
+        ensures ok { OnOk result (self.new ≡ record self.old { uploads = self.old.uploads ++ up ∷ [] }) }
+        ensures err { OnErr result (self.new ≡ self.old) }
+        ensures trees { (i : ℕ) → i < length self.old.rules → node_tree self.new i ≡ node_tree self.old i }
+    {
+        let place = self.uploads.len() as u32;
+        self.uploads.push(up)?;
+        Ok(place)
+    }
+
+    /// Makes room for `n` nodes. Room past 2^59 nodes is want of memory.
+    pub fn reserve(&mut self, n: u64) -> Result<(), Memory>
+        ensures room { OnOk result (n ≤ self.new.spare) }
+        ensures same { self.new ≡ record self.old { spare = self.new.spare } }
+        ensures more { self.old.spare ≤ self.new.spare }
+    {
+        if n <= self.spare {
+            return Ok(());
+        }
+        if n > (1 << 59) - self.nodes.len() as u64 {
+            return Err(Memory);
+        }
+        self.nodes.reserve(n as usize)?;
+        self.spare = n;
+        Ok(())
+    }
+
+    /// The cell of a node's derivation.
+    pub fn cell(&self, node: u64) -> Cell
+        requires { node < length self.now.rules }
+        ensures { result ≡ root_cell (node_tree self.now node) }
+    {
+        self.nodes[node as usize].cell
+    }
+
+    /// The cost of a node's derivation, in blocks.
+    pub fn cost(&self, node: u64) -> u64
+        requires { node < length self.now.rules }
+        ensures cost { result ≡ tree_cost (node_tree self.now node) }
+        ensures derivation { IsDerivation (node_tree self.now node) }
+        ensures inside { IsIn self.now.frame (node_tree self.now node) }
+        ensures from { IsFrom self.now.uploads (node_tree self.now node) }
+        ensures small { result < 2 ^ 38 }
+    {
+        self.nodes[node as usize].cost
+    }
+
+    /// A node's rule.
+    pub fn rule(&self, node: u64) -> &Rule
+        requires { node < length self.now.rules }
+        ensures rule { result.now ≡ rule_at self.now.rules node }
+        ensures shaped { IsShaped self.now.uploads result.now }
+        ensures children { AllByRecursion (λ j. j < node) (children_of self.now.uploads result.now) }
+        ensures uploads { AllByRecursion (λ u. u < length self.now.uploads) (uploads_of result.now) }
+        ensures sound { IsSound (rule_of self.now.uploads (trees_of self.now.uploads self.now.rules) result.now) }
+        ensures fitting { root_cells (trees_at (trees_of self.now.uploads self.now.rules) (children_of self.now.uploads result.now))
+            ≡ rule_children (rule_of self.now.uploads (trees_of self.now.uploads self.now.rules) result.now) }
+        ensures unfolds { node_tree self.now node ≡ build self.now.uploads (trees_of self.now.uploads self.now.rules) result.now }
+    {
+        &self.nodes[node as usize].rule
+    }
+
+    /// Appends a node, and answers its number. It takes no memory.
+    pub fn add(&mut self, rule: Rule) -> u64
+        requires valid { IsValid self.old.uploads self.old.rules rule }
+        requires inside { InFrame self.old.frame (root_cell (build self.old.uploads (trees_of self.old.uploads self.old.rules) rule)) }
+        requires room { 1 ≤ self.old.spare }
+        ensures number { result ≡ length self.old.rules }
+        ensures rules { self.new.rules ≡ self.old.rules ++ rule ∷ [] }
+        ensures same { self.new ≡ record self.old { rules = self.new.rules; spare = self.new.spare } }
+        ensures spare { self.old.spare ≤ self.new.spare + 1 }
+        ensures tree { node_tree self.new result ≡ build self.old.uploads (trees_of self.old.uploads self.old.rules) rule }
+        ensures trees { (i : ℕ) → i < length self.old.rules → node_tree self.new i ≡ node_tree self.old i }
+    {
+        let number = self.len();
+        let cell = self.root(&rule);
+        let cost = self.price(&rule);
+        self.nodes.push_reserved(Node { rule, cell, cost });
+        self.spare -= 1;
+        number
+    }
+
+    // An upload, by its number.
+    fn upload(&self, u: u32) -> &Accepted
+        requires { u < length self.now.uploads }
+        ensures { result.now ≡ upload_at self.now.uploads u }
+    {
+        &self.uploads[u as usize]
+    }
+
+    // The cell of the derivation that a rule stands for over these nodes.
+    fn root(&self, rule: &Rule) -> Cell
+        requires { IsValid self.now.uploads self.now.rules rule.now }
+        ensures { result ≡ root_cell (build self.now.uploads (trees_of self.now.uploads self.now.rules) rule.now) }
+    {
+        match *rule {
+            Rule::One { cell } => cell,
+            Rule::Runs { cell } => cell,
+            Rule::All { cell } => cell,
+            Rule::Leaf { upload } => self.upload(upload).design().cell(),
+            Rule::Derived { upload, .. } => lessened(self.upload(upload).design().cell(), 1),
+            Rule::Derived2 { upload, .. } => lessened(self.upload(upload).design().cell(), 2),
+            Rule::Drop { child } => dropped(self.cell(child)),
+            Rule::Add { child } => added(self.cell(child)),
+            Rule::Grow { child } => grown(self.cell(child)),
+            Rule::Lower { child } => lowered(self.cell(child)),
+            Rule::Product { cell, .. } => cell,
+            Rule::Induced { cell, .. } => cell,
+        }
+    }
+
+    // What a rule costs over these nodes.
+    fn price(&self, rule: &Rule) -> u64
+        requires { IsValid self.now.uploads self.now.rules rule.now }
+        ensures { result ≡ tree_cost (build self.now.uploads (trees_of self.now.uploads self.now.rules) rule.now) }
+    {
+        price_by_row();
+        match rule {
+            Rule::One { .. } => 1,
+            Rule::Runs { cell } => runs_cost(*cell),
+            Rule::All { cell } => binom(u64::from(cell.v), u64::from(cell.k)),
+            Rule::Leaf { upload } => self.upload(*upload).design().blocks().len() as u64,
+            Rule::Derived { upload, point } => degree(self.upload(*upload).design(), *point),
+            Rule::Derived2 {
+                upload,
+                first,
+                second,
+            } => pair_degree(self.upload(*upload).design().blocks(), *first, *second),
+            Rule::Drop { child } => self.cost(*child),
+            Rule::Add { child } => self.cost(*child),
+            Rule::Grow { child } => self.cost(*child),
+            Rule::Lower { child } => self.cost(*child),
+            Rule::Product { parts, count, .. } => self.product_cost(&parts[..*count as usize]),
+            Rule::Induced {
+                cell,
+                upload,
+                children,
+            } => self.induced_cost(*cell, self.upload(*upload), children),
+        }
+    }
+
+    // Each part costs the product of the costs of its factors.
+    fn product_cost(&self, parts: &[Part]) -> u64
+        requires there { AllByRecursion (λ i. i < length self.now.rules) (flat_map (λ p. p.first ∷ p.second ∷ []) parts.now) }
+        requires small { sum_of_products (tree_costs (trees_at (trees_of self.now.uploads self.now.rules) (flat_map (λ p. p.first ∷ p.second ∷ []) parts.now))) < 2 ^ 38 }
+        ensures { result ≡ sum_of_products (tree_costs (trees_at (trees_of self.now.uploads self.now.rules) (flat_map (λ p. p.first ∷ p.second ∷ []) parts.now))) }
+    {
+        let mut cost = 0;
+        for part in parts {
+            cost += self.cost(part.first) * self.cost(part.second);
+        }
+        cost
+    }
+
+    // Each size of cut costs as much as one cut, times the number of blocks that are cut to it.
+    fn induced_cost(&self, cell: Cell, up: &Accepted, children: &[u64; 26]) -> u64
+        requires narrow { cell.v ≤ up.now.cell.v }
+        requires covering { IsCovering up.now }
+        requires there { AllByRecursion (λ i. i < length self.now.rules) (map (λ l. slice_index children.now l) (sizes_of up.now cell.k cell.v)) }
+        requires small { row_price (λ c. tree_cost (node_tree self.now (slice_index children.now c.v))) cell (cut_counts cell.v up.now.blocks) < 2 ^ 38 }
+        ensures { result ≡ row_price (λ c. tree_cost (node_tree self.now (slice_index children.now c.v))) cell (cut_counts cell.v up.now.blocks) }
+    {
+        let counts = up.counts(u64::from(cell.v));
+        let mut cost = 0;
+        for l in 0..26u64 {
+            let count = counts[l as usize];
+            if count > 0 {
+                cost += u64::from(count) * self.cut_cost(cell, l, children[l as usize]);
+            }
+        }
+        cost
+    }
+
+    // What one cut of `l` points costs.
+    fn cut_cost(&self, cell: Cell, l: u64, child: u64) -> u64
+        requires { cell.k < l → child < length self.now.rules }
+        ensures { result ≡ cut_cost cell.t cell.k (tree_cost (node_tree self.now child)) l }
+    {
+        if l < u64::from(cell.t) {
+            0
+        } else if l <= u64::from(cell.k) {
+            1
+        } else {
+            self.cost(child)
+        }
+    }
+}

@@ -1,0 +1,12 @@
+//! Derivations: an arena of nodes that only grows, and plans that stand alone.
+#![tactic(auto)]
+
+mod arena;
+mod cells;
+mod children;
+mod costs;
+mod numbers;
+mod rules;
+
+pub use arena::Arena;
+pub use rules::{Part, Rule};
