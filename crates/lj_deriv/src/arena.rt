@@ -39,11 +39,11 @@ impl Model for Arena {
 
     ghost Value = { Nodes };
 
-    ghost use Rattle.lj_deriv.specs.Stored.{AreStored, HasRoom, rules_of};
+    ghost use Rattle.lj_deriv.specs.Stored.{AreHeld, AreStored, HasRoom, rules_of};
 
     ghost view = { λ a. record { frame = a.frame; uploads = a.uploads.items; rules = rules_of a.nodes.items; spare = a.spare } };
 
-    ghost invariant = { λ a. AreStored a.frame a.uploads.items a.nodes.items × HasRoom (vec_len a.nodes) a.spare (vec_capacity a.nodes) };
+    ghost invariant = { λ a. AreStored a.frame a.uploads.items a.nodes.items × AreHeld a.frame a.uploads.items × HasRoom (vec_len a.nodes) a.spare (vec_capacity a.nodes) };
 }
 
 impl Arena {
@@ -66,7 +66,9 @@ impl Arena {
     }
 
     pub fn uploads(&self) -> &[Accepted]
-        ensures { result.now ≡ self.now.uploads }
+        ensures uploads { result.now ≡ self.now.uploads }
+        ensures few { length self.now.uploads ≤ 2 ^ 32 }
+        ensures inside { AllByRecursion (λ u. InFrame self.now.frame u.cell) self.now.uploads }
     {
         &self.uploads
     }
@@ -75,6 +77,7 @@ impl Arena {
     pub fn len(&self) -> u64
         ensures len { result ≡ length self.now.rules }
         ensures bounded { length self.now.rules + self.now.spare ≤ 2 ^ 59 }
+        ensures valid { AreValid self.now.uploads self.now.rules }
     {
         self.nodes.len() as u64
     }
@@ -172,8 +175,8 @@ impl Arena {
         number
     }
 
-    // An upload, by its number.
-    fn upload(&self, u: u32) -> &Accepted
+    /// An upload, by its number.
+    pub fn upload(&self, u: u32) -> &Accepted
         requires { u < length self.now.uploads }
         ensures { result.now ≡ upload_at self.now.uploads u }
     {

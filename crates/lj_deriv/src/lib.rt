@@ -6,7 +6,9 @@ mod cells;
 mod children;
 mod costs;
 mod numbers;
+mod plans;
 mod rules;
 
 pub use arena::Arena;
+pub use plans::Plan;
 pub use rules::{Part, Rule};

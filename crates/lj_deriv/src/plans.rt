@@ -1,0 +1,102 @@
+ghost use Rattle.std.specs.Prelude.{◌≡◌, ◌<◌, ◌^◌, ◌++◌, length, OnErr, OnOk};
+ghost use Rattle.std.specs.List.{AllByRecursion};
+ghost use Rattle.lj_base.specs.Blocks.{Covers};
+ghost use Rattle.lj_cover.specs.Derivations.{IsDerivation, IsFrom, IsSound, expand, root_cell, root_cells, tree_cost};
+ghost use Rattle.lj_cover.specs.Rules.{rule_children};
+ghost use Rattle.lj_deriv.specs.Nodes.{IsShaped, build, children_of, plan_tree, rule_at, rule_of, step_tree, trees_at, trees_of, upload_at, uploads_of};
+
+use crate::arena::Arena;
+use crate::rules::Rule;
+use lj_base::Cell;
+use lj_cover::laws::expansion_covers;
+use lj_upload::Accepted;
+use std::marker::Model;
+
+/// The derivation of one node, which stands alone. Its nodes are numbered from 0; the last is the root, and each other is
+/// a child of a later one. The uploads are those that its rules name.
+#[derive(Drop)]
+pub struct Plan {
+    arena: Arena,
+}
+
+impl Model for Plan {
+    ghost use Rattle.lj_deriv.specs.Nodes.{IsWhole, Steps, steps_of};
+
+    ghost Value = { Steps };
+
+    ghost view = { λ p. steps_of p.arena };
+
+    ghost invariant = { λ p. IsWhole (steps_of p.arena) };
+}
+
+impl Plan {
+    /// The cell of the derivation.
+    pub fn cell(&self) -> Cell
+        ensures { result ≡ root_cell (plan_tree self.now) }
+    {
+        self.arena.cell(self.arena.len() - 1)
+    }
+
+    /// The number of blocks that the derivation gives. They cover its cell.
+    pub fn cost(&self) -> u64
+        ensures cost { result ≡ tree_cost (plan_tree self.now) }
+        ensures derivation { IsDerivation (plan_tree self.now) }
+        ensures covers { Covers (expand (plan_tree self.now)) (root_cell (plan_tree self.now)) }
+        ensures counts { length (expand (plan_tree self.now)) ≡ result }
+        ensures small { result < 2 ^ 38 }
+        ensures from { IsFrom self.now.uploads (plan_tree self.now) }
+    {
+        expansion_covers();
+        self.arena.cost(self.arena.len() - 1)
+    }
+
+    /// The number of its nodes.
+    pub fn len(&self) -> u64
+        ensures len { result ≡ length self.now.rules }
+        ensures some { 0 < result }
+    {
+        self.arena.len()
+    }
+
+    /// A node's rule. The children and the upload that it names are numbers of this plan.
+    pub fn rule(&self, i: u64) -> &Rule
+        requires { i < length self.now.rules }
+        ensures rule { result.now ≡ rule_at self.now.rules i }
+        ensures shaped { IsShaped self.now.uploads result.now }
+        ensures children { AllByRecursion (λ j. j < i) (children_of self.now.uploads result.now) }
+        ensures uploads { AllByRecursion (λ u. u < length self.now.uploads) (uploads_of result.now) }
+        ensures sound { IsSound (rule_of self.now.uploads (trees_of self.now.uploads self.now.rules) result.now) }
+        ensures fitting { root_cells (trees_at (trees_of self.now.uploads self.now.rules) (children_of self.now.uploads result.now))
+            ≡ rule_children (rule_of self.now.uploads (trees_of self.now.uploads self.now.rules) result.now) }
+        ensures unfolds { step_tree self.now i ≡ build self.now.uploads (trees_of self.now.uploads self.now.rules) result.now }
+    {
+        self.arena.rule(i)
+    }
+
+    /// The cell of a node's derivation.
+    pub fn cell_of(&self, i: u64) -> Cell
+        requires { i < length self.now.rules }
+        ensures { result ≡ root_cell (step_tree self.now i) }
+    {
+        self.arena.cell(i)
+    }
+
+    /// The cost of a node's derivation, in blocks.
+    pub fn cost_of(&self, i: u64) -> u64
+        requires { i < length self.now.rules }
+        ensures cost { result ≡ tree_cost (step_tree self.now i) }
+        ensures derivation { IsDerivation (step_tree self.now i) }
+        ensures small { result < 2 ^ 38 }
+        ensures from { IsFrom self.now.uploads (step_tree self.now i) }
+    {
+        self.arena.cost(i)
+    }
+
+    /// An upload that a rule of this plan names.
+    pub fn upload(&self, u: u32) -> &Accepted
+        requires { u < length self.now.uploads }
+        ensures { result.now ≡ upload_at self.now.uploads u }
+    {
+        self.arena.upload(u)
+    }
+}
