@@ -1,0 +1,36 @@
+-- The coverings of a plan's nodes, held while later nodes need them.
+use Rattle.std.specs.Prelude.{◌≡◌, ℕ, ◌<◌, ◌≤◌, List, [], ◌∷◌, Option, None, Some, IsSome, unwrap_or, length, map, nat_lt, nat_le, if◌then◌else◌, slice_index_or}
+use Rattle.std.specs.List.{AllZip}
+use Rattle.lj_base.specs.Blocks.{Covers}
+use Rattle.lj_base.specs.Cells.{Triple}
+use Rattle.lj_cover.specs.Derivations.{Tree, expand, root_cell}
+use Rattle.lj_cover.specs.Designs.{Covering}
+use Rattle.lj_cover.specs.Operations.{fill, place}
+use Rattle.lj_cover.specs.Rules.{triple}
+
+-- the covering that a derivation gives
+abbrev pub covering_of : Tree → Covering
+covering_of d = record { cell = root_cell d; blocks = expand d }
+
+-- what stands at a node's place: its covering, or nothing
+abbrev pub place_at : List (Option Covering) → ℕ → Option Covering
+place_at held i = slice_index_or held i None
+
+-- the blocks at a node's place
+abbrev pub blocks_at : List (Option Covering) → ℕ → List (List ℕ)
+blocks_at held i = (unwrap_or (place_at held i) (record { cell = triple 0 0 0; blocks = [] })).blocks
+
+-- at the place stands a covering of the cell
+pub record StandsAt (held : List (Option Covering)) (i : ℕ) (c : Triple) : Type 0 where
+  pub there : IsSome (place_at held i)
+  pub is : place_at held i ≡ Some (record { cell = c; blocks = blocks_at held i })
+  pub covers : Covers (blocks_at held i) c
+
+-- at the places stand coverings of these cells
+abbrev pub StandAt : List (Option Covering) → List ℕ → List Triple → Type 0
+StandAt held is cells = AllZip (StandsAt held) is cells
+
+-- the blocks for one cut: none where it is smaller than t, itself filled where it has up to k points, and else the blocks
+-- of the child for its size, placed on its points
+abbrev pub blocks_of_cut : ℕ → ℕ → List (List ℕ) → List ℕ → List (List ℕ)
+blocks_of_cut t k child c = if nat_lt (length c) t then [] else (if nat_le (length c) k then fill k c ∷ [] else map (place c) child)

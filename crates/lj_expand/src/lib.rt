@@ -1,0 +1,4 @@
+//! The blocks of plans.
+#![tactic(auto)]
+
+mod bases;
