@@ -2,3 +2,7 @@
 #![tactic(auto)]
 
 mod bases;
+mod cuts;
+mod held;
+mod nodes;
+mod products;
