@@ -10,8 +10,8 @@ use Rattle.lj_cover.specs.Rules.{rule_children, triple}
 use Rattle.lj_deriv.specs.declared.rules.Part.{Part}
 use Rattle.lj_deriv.specs.declared.rules.Rule.{Rule}
 use Rattle.lj_deriv.specs.declared.rules.Rule.TheVariants.{Induced, Product}
-use Rattle.lj_deriv.specs.Nodes.{IsShaped, Steps, build, children_of, rule_of, step_tree, tree_at, trees_at, trees_of, upload_at}
-use Rattle.lj_expand.specs.Expansions.{IsExpanded, StandAt, StandsAt, blocks_at, bounds_of, covering_of, factors_of}
+use Rattle.lj_deriv.specs.Nodes.{Steps, build, children_of, rule_of, step_tree, trees_at, trees_of, upload_at}
+use Rattle.lj_expand.specs.Expansions.{IsExpanded, StandAt, StandsAt, blocks_at, covering_of, factors_of}
 
 -- the expansion law
 abbrev pub ExpansionCovers : Type 0

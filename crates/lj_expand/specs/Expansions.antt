@@ -1,5 +1,5 @@
 -- The coverings of a plan's nodes, held while later nodes need them.
-use Rattle.std.specs.Prelude.{◌≡◌, ℕ, List, [], ◌∷◌, Option, None, Some, IsSome, unwrap_or, length, map, nat_lt, nat_le, if◌then◌else◌, slice_index, slice_index_or}
+use Rattle.std.specs.Prelude.{◌≡◌, ℕ, List, [], ◌∷◌, Option, None, Some, unwrap_or, length, map, nat_lt, nat_le, if◌then◌else◌, slice_index_or}
 use Rattle.std.specs.List.{AllZip, flat_map}
 use Rattle.lj_base.specs.Blocks.{Covers}
 use Rattle.lj_base.specs.Cells.{Triple}

@@ -24,8 +24,8 @@ pub(crate) fn induced_design(
     requires fits { cell.v ≤ whole.now.cell.v }
     requires children { StandAt held.now (map (λ l. slice_index children.now l) (cut_sizes cell.k cell.v whole.now.blocks)) (map (λ l. triple l cell.k cell.t) (cut_sizes cell.k cell.v whole.now.blocks)) }
     ensures { IfOk result (λ design. design ≡ record {
-        cell = cell;
-        blocks = induced_blocks cell.t cell.k cell.v (map (blocks_at held.now) (map (λ l. slice_index children.now l) (cut_sizes cell.k cell.v whole.now.blocks))) whole.now.blocks;
+      cell = cell;
+      blocks = induced_blocks cell.t cell.k cell.v (map (blocks_at held.now) (map (λ l. slice_index children.now l) (cut_sizes cell.k cell.v whole.now.blocks))) whole.now.blocks;
     }) }
 {
     induced_covers();

@@ -1,10 +1,9 @@
-use Rattle.std.proofs.Common.{◌≡◌, ◌∙◌, ap, subst, sym, take}
+use Rattle.std.proofs.Common.{◌∙◌, ap, subst, sym}
 use Rattle.std.proofs.lemmas.Result.{IfOk-weaker}
 use Rattle.std.specs.List.{AllByRecursion}
 use Rattle.lj_cover.specs.Designs.{Covering}
 use Rattle.lj_cover.specs.Rules.{Upload, rule_children}
-use Rattle.lj_deriv.specs.declared.rules.Rule.TheVariants.{Induced, Product}
-use Rattle.lj_deriv.specs.Nodes.{IsShaped, children_of, rule_of, upload_at}
+use Rattle.lj_deriv.specs.Nodes.{IsShaped, children_of, rule_of}
 use Rattle.lj_expand.specs.Expansions.{IsExpanded, StandAt}
 use Rattle.lj_expand.proofs.Children.{children-stand, induced-made, induced-stand, node-covering, product-made, trees}
 use Rattle.lj_expand.proofs.nodes.node_design.Goals as goal
