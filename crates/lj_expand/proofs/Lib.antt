@@ -1,0 +1,6 @@
+pub mod Children
+pub mod CutLists
+pub mod Parts
+pub mod Placed
+pub mod Ranked
+pub mod Rows
