@@ -1,0 +1,5 @@
+pub mod Adding
+pub mod LastSections
+pub mod Names
+pub mod Searching
+pub mod Unique

@@ -1,0 +1,14 @@
+//! Scripts: read from bytes, with each fault named.
+#![tactic(auto)]
+
+mod bodies;
+mod faults;
+mod forms;
+mod growing;
+mod reading;
+mod scripts;
+mod words;
+
+pub use faults::ScriptFault;
+pub use reading::read_script;
+pub use scripts::{Body, Command, Commands, Script, Section, Sections};
