@@ -1,0 +1,9 @@
+mod Choosing
+mod LastPoint
+mod Counts
+mod Powers
+mod Written
+mod PlainLines
+mod Placed
+mod Spelled
+mod Covering

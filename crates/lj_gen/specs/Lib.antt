@@ -1,0 +1,2 @@
+pub mod Quadruples
+pub mod Generated

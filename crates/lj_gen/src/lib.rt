@@ -1,0 +1,8 @@
+//! The generated script: an upload of all quadruples with xor 0, and questions about the bounds that follow from it.
+#![tactic(auto)]
+
+mod laws;
+mod quadruples;
+mod scripts;
+
+pub use scripts::gen_script;
