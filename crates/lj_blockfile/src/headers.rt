@@ -4,11 +4,11 @@ ghost use Rattle.lj_base.specs.Blocks.{AreBlocks};
 ghost use Rattle.lj_text.specs.Lines.{after_line};
 ghost use Rattle.lj_text.specs.Numbers.{number_of};
 ghost use Rattle.lj_text.specs.Tokens.{IsTokenOf, token_text, tokens_of};
-ghost use Rattle.lj_blockfile.specs.BlockFiles.{AreBlocksOf, blocks_text};
+ghost use Rattle.lj_blockfile.specs.BlockFiles.{AreBlocksOf};
 ghost use Rattle.lj_blockfile.specs.Headers.{IsHeader, Spells, file_text, header_line};
 
 use crate::laws::file_law;
-use crate::write::write_block;
+use crate::write::put_blocks;
 use lj_base::{Block, Cell, Memory};
 use lj_text::{
     Lines, Tokens, after_line, decimal_law, lines_law, number, put, put_number, tokens_law,
@@ -104,18 +104,7 @@ fn append_file(cell: Cell, blocks: &[Block], out: &mut Vec<u8>) -> Result<(), Me
     ensures err { OnErr result (take (length out.old.items) out.new.items ≡ out.old.items) }
 {
     append_header(cell, blocks.len() as u64, out)?;
-    append_blocks(blocks, out)
-}
-
-// Appends a line for each block; after an error a part of them may have been appended.
-fn append_blocks(blocks: &[Block], out: &mut Vec<u8>) -> Result<(), Memory>
-    ensures ok { OnOk result (out.new.items ≡ out.old.items ++ blocks_text blocks.now) }
-    ensures err { OnErr result (take (length out.old.items) out.new.items ≡ out.old.items) }
-{
-    for block in blocks {
-        write_block(block, out)?;
-    }
-    Ok(())
+    put_blocks(blocks, out)
 }
 
 // Appends the header's line and LF; after an error a part of it may have been appended.

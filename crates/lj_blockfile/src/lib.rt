@@ -11,4 +11,4 @@ pub use faults::{BodyFault, LineFault};
 pub use headers::{Header, NoHeader, read_header, write_file};
 pub use laws::{file_law, written_law};
 pub use read::{read_block, read_blocks};
-pub use write::write_block;
+pub use write::{put_blocks, write_block};

@@ -1,5 +1,6 @@
 ghost use Rattle.std.specs.Prelude.{◌≡◌, ◌<◌, ◌≤◌, ℕ, [], ◌∷◌, ◌++◌, length, take, OnErr, OnOk};
 ghost use Rattle.lj_base.specs.Blocks.{Ascends};
+ghost use Rattle.lj_blockfile.specs.BlockFiles.{blocks_text};
 ghost use Rattle.lj_blockfile.specs.BlockLines.{IsBlockLine, block_line};
 
 use lj_base::{Block, Memory};
@@ -36,4 +37,28 @@ fn append_line(block: &Block, out: &mut Vec<u8>) -> Result<(), Memory>
         put_number(out, block.at(i) as u64 + 1)?;
     }
     put(out, b"\n")
+}
+
+/// Appends the line of each block, in order.
+pub fn put_blocks(blocks: &[Block], out: &mut Vec<u8>) -> Result<(), Memory>
+    ensures ok { OnOk result (out.new.items ≡ out.old.items ++ blocks_text blocks.now) }
+    ensures err { OnErr result (out.new.items ≡ out.old.items) }
+{
+    let before = out.len();
+    let result = append_blocks(blocks, out);
+    if result.is_err() {
+        out.truncate(before);
+    }
+    result
+}
+
+// Appends a line for each block; after an error a part of them may have been appended.
+fn append_blocks(blocks: &[Block], out: &mut Vec<u8>) -> Result<(), Memory>
+    ensures ok { OnOk result (out.new.items ≡ out.old.items ++ blocks_text blocks.now) }
+    ensures err { OnErr result (take (length out.old.items) out.new.items ≡ out.old.items) }
+{
+    for block in blocks {
+        write_block(block, out)?;
+    }
+    Ok(())
 }
