@@ -8,6 +8,7 @@ mod costs;
 mod numbers;
 mod plans;
 mod rules;
+mod texts;
 
 pub use arena::Arena;
 pub use plans::Plan;
