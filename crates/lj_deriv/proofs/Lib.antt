@@ -1,4 +1,8 @@
+pub mod CopySteps
 pub mod Lines
+pub mod Marking
+pub mod Outcomes
+pub mod NewNumbers
 pub mod Places
 pub mod Pricing
 pub mod Sizes
