@@ -1,4 +1,5 @@
 pub mod CopySteps
+pub mod Lines
 pub mod Marking
 pub mod Outcomes
 pub mod NewNumbers

@@ -1,4 +1,5 @@
 pub mod Copies
+pub mod Fields
 pub mod Nodes
 pub mod Stored
 pub mod Texts

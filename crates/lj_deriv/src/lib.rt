@@ -10,6 +10,7 @@ mod planning;
 mod plans;
 mod renumbering;
 mod rules;
+mod texts;
 
 pub use arena::Arena;
 pub use plans::Plan;

@@ -3,7 +3,7 @@ ghost use Rattle.std.specs.List.{AllByRecursion};
 ghost use Rattle.lj_base.specs.Blocks.{Covers};
 ghost use Rattle.lj_cover.specs.Derivations.{IsDerivation, IsFrom, IsSound, expand, root_cell, root_cells, tree_cost};
 ghost use Rattle.lj_cover.specs.Rules.{rule_children};
-ghost use Rattle.lj_deriv.specs.Nodes.{IsShaped, IsWhole, build, children_of, plan_tree, rule_at, rule_of, step_tree, steps_of, trees_at, trees_of, upload_at, uploads_of};
+ghost use Rattle.lj_deriv.specs.Nodes.{AreValid, IsShaped, IsWhole, build, children_of, plan_tree, rule_at, rule_of, step_tree, steps_of, trees_at, trees_of, upload_at, uploads_of};
 
 use crate::arena::Arena;
 use crate::rules::Rule;
@@ -62,6 +62,8 @@ impl Plan {
     pub fn len(&self) -> u64
         ensures len { result ≡ length self.now.rules }
         ensures some { 0 < result }
+        ensures valid { AreValid self.now.uploads self.now.rules }
+        ensures whole { IsWhole self.now }
     {
         self.arena.len()
     }
