@@ -2,7 +2,7 @@ ghost use Rattle.std.specs.Prelude.{◌≡◌, ◌⊎◌, ◌↔◌, ◌≤◌, 
 ghost use Rattle.std.specs.List.{AllByRecursion};
 ghost use Rattle.lj_text.specs.Lines.{IsLineOf, after_line, line_text};
 ghost use Rattle.lj_script.specs.LineOrder.{StandFrom};
-ghost use Rattle.lj_script.specs.Scripts.{GoTo, IsBody, IsEnd, words_of};
+ghost use Rattle.lj_script.specs.Scripts.{ReachesEnd, IsBody, IsEnd, words_of};
 
 use crate::faults::ScriptFault;
 use crate::forms::is_word;
@@ -46,7 +46,7 @@ fn between<'a>(bytes: &'a [u8], line: &Line, later: &Line) -> &'a [u8]
 // Goes up to the first line that ends a body.
 fn find_end(bytes: &[u8], lines: &mut Lines) -> Option<Line>
     requires { AllByRecursion (IsLineOf bytes.now) lines.old }
-    ensures found { IfSome result (λ end. GoTo bytes.now end lines.old lines.new) }
+    ensures found { IfSome result (λ end. ReachesEnd bytes.now end lines.old lines.new) }
     ensures inside { IfSome result (IsLineOf bytes.now) }
     ensures none { IfNone result (AllByRecursion (λ line. IsEnd bytes.now line → ⊥) lines.old) }
 {
