@@ -4,7 +4,7 @@ use Rattle.std.specs.List.{AllByRecursion}
 use Rattle.lj_text.specs.Lines.{after_line}
 use Rattle.lj_text.specs.declared.lines.Line.{Line}
 use Rattle.lj_script.specs.Items.{IsItem, Item, new_client, new_command}
-use Rattle.lj_script.specs.Scripts.{Completes, IsBody, IsEnd, Says, form_of, words}
+use Rattle.lj_script.specs.Scripts.{Completes, IsBody, IsEnd, Says, command_form, words}
 use Rattle.lj_script.specs.declared.forms.Form.{Form}
 use Rattle.lj_script.specs.declared.forms.Form.TheVariants.{Client}
 use Rattle.lj_script.specs.declared.scripts.Command.{Command}
@@ -30,7 +30,7 @@ same_body bytes begin lines b d r s h j =
     let same = same_end bytes h.reaches.inner j.reaches.inner h.end j.end r s (sym h.reaches.lines_are ∙ j.reaches.lines_are) h.reaches.none_ends j.reaches.none_ends h.reaches.ends j.reaches.ends in
     (h.body_is ∙ ap (λ (e : Line). slice_range bytes (after_line bytes begin) e.start) same.0 ∙ sym j.body_is, same.1)
 
-same_completed : (bytes : List ℕ) (c d : Command) (first : Line) (others r s : List Line) → form_of c ≡ form_of d → Completes bytes c first others r → Completes bytes d first others s
+same_completed : (bytes : List ℕ) (c d : Command) (first : Line) (others r s : List Line) → command_form c ≡ command_form d → Completes bytes c first others r → Completes bytes d first others s
     → (c ≡ d) × (r ≡ s)
 same_completed bytes (Upload c b) (Upload d e) first others r s same h j =
     let body = same_body bytes first others b e r s h j in
@@ -48,7 +48,7 @@ same_completed bytes c d first others r s same h j = absurd cc
 -- the form of an item's first line
 abbrev pub first_form : Item → Form
 first_form (new_client name) = Client name
-first_form (new_command c) = form_of c
+first_form (new_command c) = command_form c
 
 -- what stands behind an item's first line
 abbrev Follows : List ℕ → Item → Line → List Line → List Line → Type 0

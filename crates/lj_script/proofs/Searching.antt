@@ -3,7 +3,7 @@ use Rattle.std.proofs.Common.{◌≡◌, ℕ, List, [], ◌∷◌, ◌++◌, ref
 use Rattle.std.specs.List.{AllByRecursion}
 use Rattle.lj_text.specs.Lines.{IsLineOf}
 use Rattle.lj_text.specs.declared.lines.Line.{Line}
-use Rattle.lj_script.specs.Scripts.{GoTo, IsEnd}
+use Rattle.lj_script.specs.Scripts.{ReachesEnd, IsEnd}
 
 pub AllByRecursion-append : {X : Type 0} (P : X → Type 0) (xs ys : List X) → AllByRecursion P xs → AllByRecursion P ys → AllByRecursion P (xs ++ ys)
 AllByRecursion-append P [] ys h k = k
@@ -35,8 +35,8 @@ module _ {bytes : List ℕ} {lines : List Line} {line : Line} {left : List Line}
     inside = s.inside.1;
   }
 
-  pub GoTo-found : IsEnd bytes line → GoTo bytes line lines left
-  GoTo-found ends = record { inner = s.inner; lines_are = s.lines_are; none_ends = s.none_ends; ends = ends }
+  pub ReachesEnd-found : IsEnd bytes line → ReachesEnd bytes line lines left
+  ReachesEnd-found ends = record { inner = s.inner; lines_are = s.lines_are; none_ends = s.none_ends; ends = ends }
 
 -- no line ends a body
 pub none_end : {bytes : List ℕ} {lines : List Line} → IsSearched bytes lines [] → AllByRecursion (λ line. IsEnd bytes line → ⊥) lines

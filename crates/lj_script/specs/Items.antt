@@ -10,6 +10,7 @@ use Rattle.lj_script.specs.declared.faults.ScriptFault.TheVariants.{NoFrame, Bad
 use Rattle.lj_script.specs.declared.forms.Form.TheVariants.{Client}
 use Rattle.lj_script.specs.declared.scripts.Command.{Command}
 
+-- what is read in one step
 pub data Item : Type 0 where
   new_client : List ℕ → Item
   new_command : Command → Item
@@ -34,6 +35,7 @@ with_command [] c = []
 with_command (s ∷ []) c = record { name = s.name; commands = s.commands ++ c ∷ [] } ∷ []
 with_command (s ∷ (r ∷ ss)) c = s ∷ with_command (r ∷ ss) c
 
+-- the sections with the item behind them
 abbrev pub with_item : List SectionValue → Item → List SectionValue
 with_item sections (new_client name) = sections ++ record { name = name; commands = [] } ∷ []
 with_item sections (new_command c) = with_command sections c

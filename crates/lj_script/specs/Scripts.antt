@@ -16,7 +16,7 @@ use Rattle.lj_script.specs.declared.forms.Form.TheVariants.{Client, Upload as Of
 use Rattle.lj_script.specs.declared.faults.ScriptFault.{ScriptFault}
 use Rattle.lj_script.specs.declared.faults.ScriptFault.TheVariants.{NoFrame, BadLine, BadFrame, Unended, TooManyClients, TooManyCommands, Memory}
 
--- the words of a text
+-- the words of a line, from its text
 abbrev pub words_of : List ℕ → List (List ℕ)
 words_of text = map (token_text text) (tokens_of text)
 
@@ -36,7 +36,7 @@ pub record NamesCell (first : List ℕ) (line : List (List ℕ)) (c : Triple) : 
   pub in_limits : IsCell c
   pub some : 1 ≤ c.k
 
--- the command is one of a single line, and says this
+-- the line asks for this command, which has no body
 abbrev pub Asks : List (List ℕ) → Command → Type 0
 Asks line (Upload c body) = ⊥
 Asks line (UploadFile body) = ⊥
@@ -57,7 +57,7 @@ abbrev pub IsEnd : List ℕ → Line → Type 0
 IsEnd bytes line = words bytes line ≡ codes "end" ∷ []
 
 -- the lines go up to `end`, the first that ends a body, and the rest follows
-pub record GoTo (bytes : List ℕ) (end : Line) (lines rest : List Line) : Type 0 where
+pub record ReachesEnd (bytes : List ℕ) (end : Line) (lines rest : List Line) : Type 0 where
   pub inner : List Line
   pub lines_are : lines ≡ inner ++ end ∷ rest
   pub none_ends : AllByRecursion (λ line. IsEnd bytes line → ⊥) inner
@@ -66,7 +66,7 @@ pub record GoTo (bytes : List ℕ) (end : Line) (lines rest : List Line) : Type 
 -- the body of an upload: the bytes from behind the upload's line up to the first line that ends a body
 pub record IsBody (bytes : List ℕ) (begin : Line) (lines : List Line) (body : List ℕ) (rest : List Line) : Type 0 where
   pub end : Line
-  pub reaches : GoTo bytes end lines rest
+  pub reaches : ReachesEnd bytes end lines rest
   pub body_is : body ≡ slice_range bytes (after_line bytes begin) end.start
 
 -- the lines begin with one that has this form
@@ -75,13 +75,13 @@ pub record Begins (bytes : List ℕ) (form : Form) (lines : List Line) (first : 
   pub says : Says (words bytes first) form
 
 -- the form of a command's first line
-abbrev pub form_of : Command → Form
-form_of (Upload c body) = Offer c
-form_of (UploadFile body) = OfferFile
-form_of (Bound c) = Ask (Bound c)
-form_of (Plan c) = Ask (Plan c)
-form_of (Expand c) = Ask (Expand c)
-form_of Settle = Ask Settle
+abbrev pub command_form : Command → Form
+command_form (Upload c body) = Offer c
+command_form (UploadFile body) = OfferFile
+command_form (Bound c) = Ask (Bound c)
+command_form (Plan c) = Ask (Plan c)
+command_form (Expand c) = Ask (Expand c)
+command_form Settle = Ask Settle
 
 -- behind the first line of an upload comes its body, and behind that of another command the rest
 abbrev pub Completes : List ℕ → Command → Line → List Line → List Line → Type 0
@@ -96,9 +96,10 @@ Completes bytes Settle first others rest = others ≡ rest
 pub record IsCommand (bytes : List ℕ) (command : Command) (lines rest : List Line) : Type 0 where
   pub first : Line
   pub others : List Line
-  pub begins : Begins bytes (form_of command) lines first others
+  pub begins : Begins bytes (command_form command) lines first others
   pub completes : Completes bytes command first others rest
 
+-- the lines begin with those of the commands, and the rest follows
 abbrev pub AreCommands : List ℕ → List Command → List Line → List Line → Type 0
 AreCommands bytes [] lines rest = lines ≡ rest
 AreCommands bytes (c ∷ cs) lines rest = (middle : List Line) × IsCommand bytes c lines middle × AreCommands bytes cs middle rest
@@ -124,7 +125,7 @@ IsWithin sections = (length sections ≤ 16) × AllByRecursion (λ s. length s.c
 abbrev pub IsFrameLine : List (List ℕ) → Top → Type 0
 IsFrameLine line frame = NamesCell (codes "frame") line frame.top
 
--- the lines of the bytes before the rest are those of this frame and of these sections
+-- the lines of the bytes before the rest are those of this frame and of these sections, within the limits
 pub record IsReadUpTo (bytes : List ℕ) (frame : Top) (sections : List SectionValue) (rest : List Line) : Type 0 where
   pub first : Line
   pub others : List Line

@@ -1,7 +1,7 @@
 ghost use Rattle.std.specs.Prelude.{◌≡◌, ◌⊎◌, ◌↔◌, ◌≤◌, [], ◌∷◌, IfErr, IfNone, IfOk, IfSome, IsTrue, codes, length, slice_range};
 ghost use Rattle.std.specs.List.{AllByRecursion};
 ghost use Rattle.lj_text.specs.Lines.{IsLineOf, StandFrom, after_line, line_text};
-ghost use Rattle.lj_script.specs.Scripts.{GoTo, IsBody, IsEnd, words_of};
+ghost use Rattle.lj_script.specs.Scripts.{IsBody, IsEnd, ReachesEnd, words_of};
 
 use crate::faults::ScriptFault;
 use crate::forms::is_word;
@@ -45,7 +45,7 @@ fn between<'a>(bytes: &'a [u8], line: &Line, later: &Line) -> &'a [u8]
 // Goes up to the first line that ends a body.
 fn find_end(bytes: &[u8], lines: &mut Lines) -> Option<Line>
     requires { AllByRecursion (IsLineOf bytes.now) lines.old }
-    ensures found { IfSome result (λ end. GoTo bytes.now end lines.old lines.new) }
+    ensures found { IfSome result (λ end. ReachesEnd bytes.now end lines.old lines.new) }
     ensures inside { IfSome result (IsLineOf bytes.now) }
     ensures none { IfNone result (AllByRecursion (λ line. IsEnd bytes.now line → ⊥) lines.old) }
 {

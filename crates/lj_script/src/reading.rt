@@ -22,7 +22,7 @@ pub fn read_script(alloc: Global, bytes: &[u8]) -> Result<Script, ScriptFault>
     ensures script { IfOk result (IsScript bytes.now) }
     ensures fault { IfErr result (IsScriptFault bytes.now) }
 
-    // Of a script it is the only one that the bytes spell, and else the fault is the only one: only memory can be wanting.
+    // Bytes spell one script or have one fault, and it is told, unless memory is wanting.
     ensures complete { (script : ScriptValue) → IsScript bytes.now script
         → MatchResult result (λ read. read ≡ script) (λ fault. fault ≡ ScriptFault.Memory) }
     ensures exact { (fault : ScriptFault) → IsScriptFault bytes.now fault → (fault ≡ ScriptFault.Memory → ⊥)
