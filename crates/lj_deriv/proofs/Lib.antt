@@ -1,3 +1,7 @@
+pub mod CopySteps
+pub mod Marking
+pub mod Outcomes
+pub mod NewNumbers
 pub mod Places
 pub mod Pricing
 pub mod Sizes

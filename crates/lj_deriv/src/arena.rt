@@ -4,10 +4,12 @@ ghost use Rattle.lj_base.specs.Frames.{InFrame};
 ghost use Rattle.lj_cover.specs.Derivations.{IsDerivation, IsFrom, IsIn, IsSound, root_cell, root_cells, tree_cost, tree_costs};
 ghost use Rattle.lj_cover.specs.Rules.{IsCovering, cut_cost, rule_children, sum_of_products};
 ghost use Rattle.lj_cover.specs.Instances.{cut_counts, row_price};
-ghost use Rattle.lj_deriv.specs.Nodes.{AreValid, IsShaped, IsValid, build, children_of, node_tree, rule_at, rule_of, sizes_of, trees_at, trees_of, upload_at, uploads_of};
+ghost use Rattle.lj_deriv.specs.Nodes.{AreValid, IsPlanOf, IsShaped, IsValid, build, children_of, node_tree, plan_tree, rule_at, rule_of, sizes_of, trees_at, trees_of, upload_at, uploads_of};
 
 use crate::cells::{added, dropped, grown, lessened, lowered};
 use crate::costs::{pair_degree, runs_cost};
+use crate::planning::copy_reached;
+use crate::plans::Plan;
 use crate::rules::{Part, Rule};
 use lj_base::{Cell, Frame, Memory, binom};
 use lj_cover::degree;
@@ -150,6 +152,8 @@ impl Arena {
         ensures sound { IsSound (rule_of self.now.uploads (trees_of self.now.uploads self.now.rules) result.now) }
         ensures fitting { root_cells (trees_at (trees_of self.now.uploads self.now.rules) (children_of self.now.uploads result.now))
             ≡ rule_children (rule_of self.now.uploads (trees_of self.now.uploads self.now.rules) result.now) }
+        ensures inside { IsIn self.now.frame (node_tree self.now node) }
+        ensures small { tree_cost (build self.now.uploads (trees_of self.now.uploads self.now.rules) result.now) < 2 ^ 38 }
         ensures unfolds { node_tree self.now node ≡ build self.now.uploads (trees_of self.now.uploads self.now.rules) result.now }
     {
         &self.nodes[node as usize].rule
@@ -173,6 +177,16 @@ impl Arena {
         self.nodes.push_reserved(Node { rule, cell, cost });
         self.spare -= 1;
         number
+    }
+
+    /// The derivation of a node, which stands alone: the nodes that it reaches, in order, and the uploads that they name.
+    pub fn plan(&self, alloc: Global, root: u64) -> Result<Plan, Memory>
+        requires { root < length self.now.rules }
+        ensures plan { IfOk result (IsPlanOf self.now root) }
+        ensures tree { IfOk result (λ p. plan_tree p ≡ node_tree self.now root) }
+    {
+        let _nodes = self.len();
+        Ok(Plan::of(copy_reached(self, alloc, root)?))
     }
 
     /// An upload, by its number.

@@ -6,7 +6,9 @@ mod cells;
 mod children;
 mod costs;
 mod numbers;
+mod planning;
 mod plans;
+mod renumbering;
 mod rules;
 
 pub use arena::Arena;

@@ -3,7 +3,7 @@ ghost use Rattle.std.specs.List.{AllByRecursion};
 ghost use Rattle.lj_base.specs.Blocks.{Covers};
 ghost use Rattle.lj_cover.specs.Derivations.{IsDerivation, IsFrom, IsSound, expand, root_cell, root_cells, tree_cost};
 ghost use Rattle.lj_cover.specs.Rules.{rule_children};
-ghost use Rattle.lj_deriv.specs.Nodes.{IsShaped, build, children_of, plan_tree, rule_at, rule_of, step_tree, trees_at, trees_of, upload_at, uploads_of};
+ghost use Rattle.lj_deriv.specs.Nodes.{IsShaped, IsWhole, build, children_of, plan_tree, rule_at, rule_of, step_tree, steps_of, trees_at, trees_of, upload_at, uploads_of};
 
 use crate::arena::Arena;
 use crate::rules::Rule;
@@ -30,6 +30,14 @@ impl Model for Plan {
 }
 
 impl Plan {
+    /// Takes nodes that stand alone.
+    pub(crate) fn of(arena: Arena) -> Plan
+        requires { IsWhole (steps_of arena) }
+        ensures { result ≡ steps_of arena }
+    {
+        Plan { arena }
+    }
+
     /// The cell of the derivation.
     pub fn cell(&self) -> Cell
         ensures { result ≡ root_cell (plan_tree self.now) }
