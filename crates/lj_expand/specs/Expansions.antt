@@ -1,13 +1,13 @@
 -- The coverings of a plan's nodes, held while later nodes need them.
-use Rattle.std.specs.Prelude.{◌≡◌, ℕ, List, [], ◌∷◌, Option, None, Some, unwrap_or, length, map, nat_lt, nat_le, if◌then◌else◌, slice_index_or}
-use Rattle.std.specs.List.{AllZip, flat_map}
+use Rattle.std.specs.Prelude.{◌≡◌, ℕ, ◌<◌, ◌≤◌, List, [], ◌∷◌, Option, None, Some, unwrap_or, length, map, nat_lt, nat_le, if◌then◌else◌, slice_index, slice_index_or}
+use Rattle.std.specs.List.{AllByRecursion, AllZip, flat_map}
 use Rattle.lj_base.specs.Blocks.{Covers}
 use Rattle.lj_base.specs.Cells.{Triple}
 use Rattle.lj_cover.specs.Derivations.{Tree, expand, root_cell}
 use Rattle.lj_cover.specs.Designs.{Covering}
 use Rattle.lj_cover.specs.Operations.{fill, place}
 use Rattle.lj_cover.specs.Rules.{Part, triple}
-use Rattle.lj_deriv.specs.Nodes.{Steps, step_tree}
+use Rattle.lj_deriv.specs.Nodes.{Steps, children_of, rule_at, step_tree}
 use Rattle.lj_deriv.specs.declared.rules.Part.{Part as StoredPart}
 
 -- the covering that a derivation gives
@@ -25,6 +25,10 @@ blocks_at held i = (unwrap_or (place_at held i) (record { cell = triple 0 0 0; b
 -- at the node's place stands the covering of its derivation
 abbrev pub IsExpanded : Steps → List (Option Covering) → ℕ → Type 0
 IsExpanded p held i = place_at held i ≡ Some (covering_of (step_tree p i))
+
+-- each child of a node stands before it, and its last use is that node or a later one
+abbrev pub AreLastUses : Steps → ℕ → List ℕ → Type 0
+AreLastUses p count uses = (i : ℕ) → i < count → AllByRecursion (λ j. (j < i) × (i ≤ slice_index uses j)) (children_of p.uploads (rule_at p.rules i))
 
 -- at the place stands a covering of the cell
 pub record StandsAt (held : List (Option Covering)) (i : ℕ) (c : Triple) : Type 0 where

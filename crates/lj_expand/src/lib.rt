@@ -7,6 +7,7 @@ mod expansion;
 mod held;
 mod nodes;
 mod products;
+mod uses;
 mod write;
 
 pub use expansion::expand_all;
