@@ -13,5 +13,6 @@ mod rules;
 mod texts;
 
 pub use arena::Arena;
+pub use numbers::Numbers;
 pub use plans::Plan;
 pub use rules::{Part, Rule};

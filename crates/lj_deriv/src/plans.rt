@@ -6,6 +6,7 @@ ghost use Rattle.lj_cover.specs.Rules.{rule_children};
 ghost use Rattle.lj_deriv.specs.Nodes.{AreValid, IsShaped, IsWhole, build, children_of, plan_tree, rule_at, rule_of, step_tree, steps_of, trees_at, trees_of, upload_at, uploads_of};
 
 use crate::arena::Arena;
+use crate::numbers::Numbers;
 use crate::rules::Rule;
 use lj_base::Cell;
 use lj_cover::laws::expansion_covers;
@@ -81,6 +82,15 @@ impl Plan {
         ensures unfolds { step_tree self.now i ≡ build self.now.uploads (trees_of self.now.uploads self.now.rules) result.now }
     {
         self.arena.rule(i)
+    }
+
+    /// The numbers of a node's children, in the order of its rule.
+    pub fn children(&self, i: u64) -> Numbers
+        requires { i < length self.now.rules }
+        ensures children { result ≡ children_of self.now.uploads (rule_at self.now.rules i) }
+        ensures earlier { AllByRecursion (λ j. j < i) result }
+    {
+        self.arena.rule(i).children(self.arena.uploads())
     }
 
     /// The cell of a node's derivation.

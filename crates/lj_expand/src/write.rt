@@ -1,12 +1,12 @@
-ghost use Rattle.std.specs.Prelude.{◌≡◌, ◌≤◌, ◌++◌, OnErr, OnOk, length, take};
+ghost use Rattle.std.specs.Prelude.{◌≡◌, ◌≤◌, ◌++◌, OnErr, OnOk, length};
 ghost use Rattle.lj_base.specs.Blocks.{Covers};
 ghost use Rattle.lj_blockfile.specs.BlockFiles.{blocks_text};
 ghost use Rattle.lj_cover.specs.Derivations.{expand, root_cell, tree_cost};
 ghost use Rattle.lj_deriv.specs.Nodes.{plan_tree};
 
 use crate::expansion::expand_all;
-use lj_base::{Block, Memory};
-use lj_blockfile::write_block;
+use lj_base::Memory;
+use lj_blockfile::put_blocks;
 use lj_deriv::Plan;
 use std::alloc::Global;
 
@@ -21,21 +21,5 @@ pub fn write_blocks(alloc: Global, plan: &Plan, out: &mut Vec<u8>) -> Result<(),
 {
     let _cost = plan.cost();
     let design = expand_all(alloc, plan)?;
-    let start = out.len();
-    let result = append_lines(design.blocks(), out);
-    if result.is_err() {
-        out.truncate(start);
-    }
-    result
-}
-
-// Appends a line for each block; after an error a part of them may have been appended.
-fn append_lines(blocks: &[Block], out: &mut Vec<u8>) -> Result<(), Memory>
-    ensures ok { OnOk result (out.new.items ≡ out.old.items ++ blocks_text blocks.now) }
-    ensures err { OnErr result (take (length out.old.items) out.new.items ≡ out.old.items) }
-{
-    for block in blocks {
-        write_block(block, out)?;
-    }
-    Ok(())
+    put_blocks(design.blocks(), out)
 }
