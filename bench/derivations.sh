@@ -1,0 +1,57 @@
+#!/bin/sh
+# Measures the program lj_bench: expanding and writing a plan of 994,500 blocks, beside a program written by hand, and
+# reading a script of nearly 64 MiB, beside going through its lines alone. Ten runs each, taken in turn: the best and the
+# median wall time, the ratios of both, and the peak memory. It needs rustc and GNU time.
+# usage: derivations.sh LJ_BENCH
+set -eu
+lj_bench=$1
+here=$(cd "$(dirname "$0")" && pwd)
+work=$(mktemp -d)
+trap 'rm -rf "$work"' EXIT
+rustc -O -C target-cpu=x86-64-v2 -o "$work/expanding" "$here/expanding.rs"
+# 11,184,000 block lines in one body
+{
+    printf 'frame 7 3 2\nclient a\nupload 7 3 2\n'
+    yes '1 2 3' | head -n 11184000
+    printf 'end\n'
+} > "$work/script"
+: > "$work/nothing"
+
+# measure SIDE INPUT COMMAND..: appends the wall time in seconds and the peak memory in kilobytes to the times of that side
+measure() {
+    side=$1
+    input=$2
+    shift 2
+    /usr/bin/time -o "$work/time" -f '%e %M' "$@" < "$input" > "$work/output_$side"
+    tail -n 1 "$work/time" >> "$work/times_$side"
+}
+
+# summary SIDE: prints the best time, the median time and the greatest peak of ten
+summary() {
+    sort -n "$work/times_$1" | awk '{ time[NR] = $1; if ($2 > peak) peak = $2 }
+        END { printf "%.2f %.2f %d", time[1], (time[5] + time[6]) / 2, peak }'
+}
+
+# row NAME: prints the times of both sides
+row() {
+    echo "$1 $(summary base) $(summary ljcr)" | awk '{
+        best = $2 > 0 ? sprintf("%.2f", $5 / $2) : "-"
+        median = $3 > 0 ? sprintf("%.2f", $6 / $3) : "-"
+        printf "%-28s %8s %8s %6s %8s %8s %6s %9s %9s\n", $1, $2, $5, best, $3, $6, median, $4, $7
+    }'
+    rm -f "$work"/times_*
+}
+
+printf '%-28s %8s %8s %6s %8s %8s %6s %9s %9s\n' work base ljcr ratio base ljcr ratio base ljcr
+printf '%-28s %8s %8s %6s %8s %8s %6s %9s %9s\n' '' best best best median median median kB kB
+for run in 1 2 3 4 5 6 7 8 9 10; do
+    measure base "$work/nothing" "$work/expanding"
+    measure ljcr "$work/nothing" "$lj_bench" blocks
+done
+cmp -s "$work/output_base" "$work/output_ljcr" || echo "the blocks differ"
+row expanding_against_by_hand
+for run in 1 2 3 4 5 6 7 8 9 10; do
+    measure base "$work/script" "$lj_bench" lines
+    measure ljcr "$work/script" "$lj_bench" script
+done
+row reading_against_its_lines
