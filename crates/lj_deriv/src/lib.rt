@@ -10,6 +10,8 @@ mod planning;
 mod plans;
 mod renumbering;
 mod rules;
+#[cfg(test)]
+mod tests;
 mod texts;
 
 pub use arena::Arena;
