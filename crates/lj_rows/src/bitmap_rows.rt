@@ -16,13 +16,34 @@ fn mark_but(map: &mut RankMap, first: u64, end: u64, left_out: u64)
     }
 }
 
+// Whether these are ranks of the map, marked as stated.
+fn agrees(map: &RankMap, rows: &[(u64, bool)]) -> bool {
+    for (r, marked) in rows {
+        if *r >= map.len() || map.has(*r) != *marked {
+            return false;
+        }
+    }
+    true
+}
+
 #[test]
 fn the_first_clear_ranks_come_in_order(rt: HostRuntime) -> Result<(), Fail> {
     let mut map = RankMap::new(rt.alloc(), 200)?;
     assert_eq!(rt; map.len(), 200);
     assert_eq!(rt; map.first_clear(), Some(0));
     mark_but(&mut map, 0, 199, 63);
-    assert!(rt; map.has(62) && !map.has(63) && map.has(64) && map.has(198) && !map.has(199));
+    assert!(rt;
+        agrees(
+            &map,
+            &[
+                (62, true),
+                (63, false),
+                (64, true),
+                (198, true),
+                (199, false)
+            ]
+        )
+    );
     assert_eq!(rt; map.first_clear(), Some(63));
     map.mark(63);
     assert_eq!(rt; map.first_clear(), Some(199));
@@ -67,7 +88,12 @@ fn the_words_of_a_map_are_written(rt: HostRuntime) -> Result<(), Fail> {
     assert_eq!(rt; map.words_mut().len(), 2);
     // Of the bits of the second word the lowest alone has a rank.
     write(&mut map, &[5, u64::MAX]);
-    assert!(rt; map.has(0) && !map.has(1) && map.has(2) && !map.has(3) && map.has(64));
+    assert!(rt;
+        agrees(
+            &map,
+            &[(0, true), (1, false), (2, true), (3, false), (64, true)]
+        )
+    );
     assert_eq!(rt; map.first_clear(), Some(1));
     mark_but(&mut map, 0, 64, 64);
     assert_eq!(rt; map.first_clear(), None);

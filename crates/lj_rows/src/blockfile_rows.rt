@@ -15,47 +15,54 @@ fn block_of(points: &[u8]) -> Block {
 }
 
 #[test]
-fn a_line_holds_a_block_or_has_a_fault(rt: HostRuntime) -> Result<(), Fail> {
-    let repeat = |point| Err(LineFault::Repeat { point });
-    let range = |value| Err(LineFault::PointRange { value });
-    let not_number = |column| Err(LineFault::NotNumber { column });
-    let short = |count| Err(LineFault::Short { count });
-    let long = |count| Err(LineFault::Long { count });
-    // the line, v, k, the block's points from 0 or the fault
-    let rows: [(&[u8], u64, u64, Result<&[u8], LineFault>); 20] = [
-        (b"0 1 2", 5, 3, range(0)),
-        (b"1 2 6", 5, 3, range(6)),
-        (b"1 2 2", 5, 3, repeat(2)),
-        (b"1 2", 5, 3, short(2)),
-        (b"1 2 3 4", 5, 3, long(4)),
-        (b"1 2 3 x 0", 5, 3, long(5)),
-        (b"1 x 3", 5, 3, not_number(3)),
-        (b"", 5, 3, short(0)),
-        (b"6 x 3", 5, 3, range(6)),
-        (b"1 1 x", 5, 3, repeat(1)),
-        (b"2 2", 5, 3, repeat(2)),
-        (b"1 2 x", 5, 2, long(3)),
-        (b" 3\t1  2 ", 5, 3, Ok(&[0, 1, 2])),
-        (b"001 2 3", 5, 3, Ok(&[0, 1, 2])),
-        (b"5 4 3", 5, 3, Ok(&[2, 3, 4])),
-        (b"1000000000000000000 2 3", 5, 3, not_number(1)),
+fn a_line_has_its_first_fault(rt: HostRuntime) -> Result<(), Fail> {
+    // Of five points, lines of three.
+    let rows: [(&[u8], LineFault); 15] = [
+        (b"0 1 2", LineFault::PointRange { value: 0 }),
+        (b"1 2 6", LineFault::PointRange { value: 6 }),
+        (b"1 2 2", LineFault::Repeat { point: 2 }),
+        (b"1 2", LineFault::Short { count: 2 }),
+        (b"1 2 3 4", LineFault::Long { count: 4 }),
+        (b"1 2 3 x 0", LineFault::Long { count: 5 }),
+        (b"1 x 3", LineFault::NotNumber { column: 3 }),
+        (b"", LineFault::Short { count: 0 }),
+        (b"6 x 3", LineFault::PointRange { value: 6 }),
+        (b"1 1 x", LineFault::Repeat { point: 1 }),
+        (b"2 2", LineFault::Repeat { point: 2 }),
+        (
+            b"1000000000000000000 2 3",
+            LineFault::NotNumber { column: 1 },
+        ),
         (
             b"999999999999999999 2 3",
-            5,
-            3,
-            range(999_999_999_999_999_999),
+            LineFault::PointRange {
+                value: 999_999_999_999_999_999,
+            },
         ),
-        (b"-1 2 3", 5, 3, not_number(1)),
-        (b"1,2,3", 5, 3, not_number(1)),
-        (b"99", 99, 1, Ok(&[98])),
+        (b"-1 2 3", LineFault::NotNumber { column: 1 }),
+        (b"1,2,3", LineFault::NotNumber { column: 1 }),
     ];
-    for (line, v, k, want) in rows {
-        assert_eq!(rt;
-            read_block(line, v, k),
-            want.map(|points| block_of(points)),
-            "of {line:?}"
-        );
+    for (line, fault) in rows {
+        assert_eq!(rt; read_block(line, 5, 3), Err(fault), "of {line:?}");
     }
+    assert_eq!(rt;
+        read_block(b"1 2 x", 5, 2),
+        Err(LineFault::Long { count: 3 })
+    );
+    Ok(())
+}
+
+#[test]
+fn a_line_holds_a_block(rt: HostRuntime) -> Result<(), Fail> {
+    let rows: [(&[u8], &[u8]); 3] = [
+        (b" 3\t1  2 ", &[0, 1, 2]),
+        (b"001 2 3", &[0, 1, 2]),
+        (b"5 4 3", &[2, 3, 4]),
+    ];
+    for (line, points) in rows {
+        assert_eq!(rt; read_block(line, 5, 3), Ok(block_of(points)), "of {line:?}");
+    }
+    assert_eq!(rt; read_block(b"99", 99, 1), Ok(block_of(&[98])));
     Ok(())
 }
 

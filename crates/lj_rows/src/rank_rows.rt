@@ -51,15 +51,21 @@ fn next_passes_through_all_sets_of_three_below_eight(rt: HostRuntime) {
     assert_eq!(rt; among_nine, three(0, 1, 8));
 }
 
-fn two(a: u8, b: u8) -> TSet
-    requires first { a < b }
-    requires second { b < 99 }
-    ensures { result ≡ a ∷ b ∷ [] }
-{
+// The set of these points, of those below 99 that ascend.
+fn set_of(points: &[u8]) -> TSet {
     let mut set = TSet::empty();
-    set.push(a);
-    set.push(b);
+    for p in points {
+        push(&mut set, *p);
+    }
     set
+}
+
+// Adds a point that is above all others.
+fn push(set: &mut TSet, p: u8) {
+    let len = set.len();
+    if p < 99 && len < 8 && (len == 0 || set.at(len - 1) < p) {
+        set.push(p);
+    }
 }
 
 #[test]
@@ -68,19 +74,28 @@ fn seek_finds_the_first_set_of_a_block_from_a_rank_on(rt: HostRuntime) {
     block.push(0);
     block.push(2);
     block.push(5);
-    // The sets of two of these points have the ranks 1, 10 and 12.
-    assert_eq!(rt; seek(&block, 2, 0), Some(two(0, 2)));
-    assert_eq!(rt; seek(&block, 2, 1), Some(two(0, 2)));
-    assert_eq!(rt; seek(&block, 2, 2), Some(two(0, 5)));
-    assert_eq!(rt; seek(&block, 2, 4), Some(two(0, 5)));
-    assert_eq!(rt; seek(&block, 2, 10), Some(two(0, 5)));
-    assert_eq!(rt; seek(&block, 2, 11), Some(two(2, 5)));
-    assert_eq!(rt; seek(&block, 2, 12), Some(two(2, 5)));
-    assert_eq!(rt; seek(&block, 2, 13), None);
-    assert_eq!(rt; seek(&block, 3, 0), Some(three(0, 2, 5)));
-    assert_eq!(rt; seek(&block, 4, 0), None);
-    assert_eq!(rt; seek(&block, 0, 0), Some(TSet::empty()));
-    assert_eq!(rt; seek(&block, 0, 1), None);
+    // So many points, the least rank, the set: those of two of these points have the ranks 1, 10 and 12.
+    let rows: [(u64, u64, Option<&[u8]>); 12] = [
+        (2, 0, Some(&[0, 2])),
+        (2, 1, Some(&[0, 2])),
+        (2, 2, Some(&[0, 5])),
+        (2, 4, Some(&[0, 5])),
+        (2, 10, Some(&[0, 5])),
+        (2, 11, Some(&[2, 5])),
+        (2, 12, Some(&[2, 5])),
+        (2, 13, None),
+        (3, 0, Some(&[0, 2, 5])),
+        (4, 0, None),
+        (0, 0, Some(&[])),
+        (0, 1, None),
+    ];
+    for (t, least, want) in rows {
+        assert_eq!(rt;
+            seek(&block, t, least),
+            want.map(set_of),
+            "{t} from {least} on"
+        );
+    }
 }
 
 #[test]
