@@ -185,7 +185,8 @@ impl Arena {
         ensures plan { IfOk result (IsPlanOf self.now root) }
         ensures tree { IfOk result (λ p. plan_tree p ≡ node_tree self.now root) }
     {
-        let _nodes = self.len();
+        let nodes = self.len();
+        prove!(root < nodes);
         Ok(Plan::of(copy_reached(self, alloc, root)?))
     }
 
