@@ -8,6 +8,7 @@ lj_bench=$1
 here=$(cd "$(dirname "$0")" && pwd)
 work=$(mktemp -d)
 trap 'rm -rf "$work"' EXIT
+. "$here/times.sh"
 rustc -O -C target-cpu=x86-64-v2 -o "$work/expanding" "$here/expanding.rs"
 # 11,184,000 block lines in one body
 {
@@ -16,21 +17,6 @@ rustc -O -C target-cpu=x86-64-v2 -o "$work/expanding" "$here/expanding.rs"
     printf 'end\n'
 } > "$work/script"
 : > "$work/nothing"
-
-# measure SIDE INPUT COMMAND..: appends the wall time in seconds and the peak memory in kilobytes to the times of that side
-measure() {
-    side=$1
-    input=$2
-    shift 2
-    /usr/bin/time -o "$work/time" -f '%e %M' "$@" < "$input" > "$work/output_$side"
-    tail -n 1 "$work/time" >> "$work/times_$side"
-}
-
-# summary SIDE: prints the best time, the median time and the greatest peak of ten
-summary() {
-    sort -n "$work/times_$1" | awk '{ time[NR] = $1; if ($2 > peak) peak = $2 }
-        END { printf "%.2f %.2f %d", time[1], (time[5] + time[6]) / 2, peak }'
-}
 
 # row NAME: prints the times of both sides
 row() {

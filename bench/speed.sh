@@ -7,23 +7,9 @@ ljcr=$1
 here=$(cd "$(dirname "$0")" && pwd)
 work=$(mktemp -d)
 trap 'rm -rf "$work"' EXIT
+. "$here/times.sh"
 rustc -O -C target-cpu=x86-64-v2 -o "$work/marking" "$here/marking.rs"
 sh "$here/inputs.sh" "$work/marking" "$work/inputs"
-
-# measure SIDE COMMAND..: appends the wall time in seconds and the peak memory in kilobytes to the times of that side
-measure() {
-    side=$1
-    shift
-    # The status says whether the blocks cover.
-    /usr/bin/time -o "$work/time" -f '%e %M' "$@" < "$work/input" > "$work/output_$side" 2> "$work/errors" || true
-    tail -n 1 "$work/time" >> "$work/times_$side"
-}
-
-# summary SIDE: prints the best time, the median time and the greatest peak of ten
-summary() {
-    sort -n "$work/times_$1" | awk '{ time[NR] = $1; if ($2 > peak) peak = $2 }
-        END { printf "%.2f %.2f %d", time[1], (time[5] + time[6]) / 2, peak }'
-}
 
 printf '%-26s %-7s %8s %8s %6s %8s %8s %6s %9s %9s\n' \
     input workers by_hand ljcr ratio by_hand ljcr ratio by_hand ljcr
@@ -33,8 +19,9 @@ while read -r name v k t; do
     for workers in 1 4; do
         rm -f "$work"/times_*
         for run in 1 2 3 4 5 6 7 8 9 10; do
-            measure by_hand "$work/marking" check "$v" "$k" "$t" "$workers"
-            measure ljcr "$ljcr" check "$v" "$k" "$t" --workers "$workers"
+            # Status 1 says that the blocks do not cover.
+            measure by_hand "$work/input" "$work/marking" check "$v" "$k" "$t" "$workers" || [ $? -eq 1 ]
+            measure ljcr "$work/input" "$ljcr" check "$v" "$k" "$t" --workers "$workers" || [ $? -eq 1 ]
         done
         cmp -s "$work/output_by_hand" "$work/output_ljcr" || echo "the answers differ at $name"
         echo "$name $workers $(summary by_hand) $(summary ljcr)" | awk '{
