@@ -6,7 +6,7 @@ use Rattle.std.specs.List.{list_all}
 use Rattle.lj_base.specs.Colex.{choose}
 use Rattle.lj_base.specs.Pascal.{next_row}
 use Rattle.lj_base.specs.declared.limits.TheConstants.{COST_LIMIT}
-use Rattle.lj_base.proofs.Triangle.{choices, get_or-choices, next_row-choices}
+use Rattle.lj_base.proofs.BinomialTable.{choices, get_or-choices, next_row-choices}
 
 -- there is no set of more points than there are
 pub choose-past : (n k : ℕ) → n < k → choose n k ≡ 0

@@ -1,10 +1,12 @@
 //! Laws of frames, of bounds and of numbers of sets. Each function does nothing: its contract is the law.
 
-ghost use Rattle.std.specs.Prelude.{◌≡◌, ◌≢◌, ℕ, ◌+◌, ◌-◌, ◌*◌, ◌^◌, ◌<◌, ◌≤◌, ◌↔◌, Some, length, slice_get, slice_set, Contains};
+ghost use Rattle.std.specs.Prelude.{◌≡◌, ◌≢◌, ℕ, ◌+◌, ◌-◌, ◌*◌, ◌^◌, ◌<◌, ◌≤◌, ◌↔◌, Some, length, slice_get, slice_set};
+ghost use Rattle.std.specs.Prelude.{Contains};
 ghost use Rattle.lj_base.specs.Bounds.{at_cell};
 ghost use Rattle.lj_base.specs.Cells.{IsCell, Triple};
 ghost use Rattle.lj_base.specs.Colex.{choose};
-ghost use Rattle.lj_base.specs.Frames.{InFrame, IsBefore, Top, cells_before_k, cells_before_v, cells_of, index_of, key, size_of};
+ghost use Rattle.lj_base.specs.Frames.{InFrame, IsBefore, Top, cells_before_k, cells_before_v, cells_of, index_of, key};
+ghost use Rattle.lj_base.specs.Frames.{size_of};
 
 use crate::limits::COST_LIMIT;
 

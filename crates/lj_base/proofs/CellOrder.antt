@@ -7,9 +7,10 @@ use Rattle.std.proofs.lemmas.Bool.{cases_lt}
 use Rattle.std.specs.List.{flat_map, range_with_len, slice_get}
 use Rattle.lj_base.specs.Cells.{IsCell, Triple}
 use Rattle.std.proofs.Common.{◌*◌}
-use Rattle.lj_base.proofs.Counting.{up_to_le}
+use Rattle.lj_base.proofs.CellCounts.{up_to_le}
 use Rattle.lj_base.proofs.Lists.{slice_get-append_left, slice_get-append_right, slice_get-inside}
-use Rattle.lj_base.specs.Frames.{Top, InFrame, IsBefore, cells_with, cells_of, cells_before_k, cells_before_v, before_k, up_to_v}
+use Rattle.lj_base.specs.Frames.{Top, InFrame, IsBefore, cells_with, cells_of, cells_before_k, cells_before_v, before_k}
+use Rattle.lj_base.specs.Frames.{up_to_v}
 use Rattle.lj_base.specs.Frames.{index_of, key, size_of}
 use Rattle.std.proofs.Common.{◌⊎◌, ◌↔◌, inl, inr}
 use Rattle.std.proofs.lemmas.Bool.{cases_eq}
