@@ -3,7 +3,9 @@ use Rattle.std.proofs.Common.{◌≡◌, ℕ, arith, ◌≤◌, List, [], ◌∷
 use Rattle.std.proofs.lemmas.Slice.Zip.{AllZip-long}
 use Rattle.std.proofs.lemmas.Slice.Zip.{all_zipped_more}
 use Rattle.std.specs.List.{AllByRecursion, AllZip}
+use Rattle.lj_base.proofs.Lists.{AllByRecursion-back}
 use Rattle.lj_base.specs.Blocks.{AreBlocks}
+use Rattle.lj_base.specs.declared.limits.TheConstants.{MAX_BLOCKS}
 use Rattle.lj_text.specs.Lines.{IsLineOf, line_text, text_lines}
 use Rattle.lj_text.specs.declared.lines.Line.{Line}
 use Rattle.lj_blockfile.specs.BlockFiles.{AreBlocksOf, IsFirstFaulty}
@@ -38,12 +40,18 @@ module _ {body : List ℕ} {v k : ℕ} {line : Line} {left : List Line} {bs : Li
   pub IsFirstFaulty-here : (fault : LineFault) → line_fault v k (line_text body line) ≡ Some fault → IsFirstFaulty body v k (text_lines body) line.number fault
   IsFirstFaulty-here fault h = r.first line.number fault (rw h (refl, refl))
 
-pub AreBlocksOf-end : {body : List ℕ} {v k : ℕ} {bs : List (List ℕ)} → length (text_lines body) ≤ 100000 → AreReadSoFar body v k [] bs → AreBlocksOf body v k bs
+-- what holds of each line of the text holds of the next one
+pub next-of_all : {body : List ℕ} {v k : ℕ} {line : Line} {left : List Line} {bs : List (List ℕ)} (P : Line → Type 0)
+    → AreReadSoFar body v k (line ∷ left) bs → AllByRecursion P (text_lines body) → P line
+next-of_all {body} {v} {k} {line} {left} {bs} P r all =
+    (AllByRecursion-back P r.read (line ∷ left) (subst (AllByRecursion P) (sym r.whole) all)).0
+
+pub AreBlocksOf-end : {body : List ℕ} {v k : ℕ} {bs : List (List ℕ)} → length (text_lines body) ≤ MAX_BLOCKS → AreReadSoFar body v k [] bs → AreBlocksOf body v k bs
 AreBlocksOf-end {body} {v} {k} {bs} few r =
     let all : r.read ≡ text_lines body = sym (append-nil r.read) ∙ r.whole in
     record { few = few; lines = subst (λ lines. AllZip (λ line b. IsBlockLine (line_text body line) v k b) lines bs) all r.blocks }
 
-pub few_blocks : {body : List ℕ} {v k : ℕ} {bs : List (List ℕ)} → length (text_lines body) ≤ 100000 → AreReadSoFar body v k [] bs → length bs ≤ 100000
+pub few_blocks : {body : List ℕ} {v k : ℕ} {bs : List (List ℕ)} → length (text_lines body) ≤ MAX_BLOCKS → AreReadSoFar body v k [] bs → length bs ≤ MAX_BLOCKS
 few_blocks few r = let same = AllZip-long _ _ _ (AreBlocksOf-end few r).lines in omega arith
 
 pub AreBlocks-from_lines : (body : List ℕ) (v k : ℕ) (lines : List Line) (bs : List (List ℕ)) → AllZip (λ line b. IsBlockLine (line_text body line) v k b) lines bs → AreBlocks v k bs

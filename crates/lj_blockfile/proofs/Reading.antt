@@ -3,16 +3,18 @@ use Rattle.std.proofs.Common.{◌≡◌, ◌↔◌, ℕ, zero, suc, ◌+◌, ◌
 use Rattle.std.proofs.Math.Seq.{take-nil}
 use Rattle.std.proofs.lemmas.Bool.{cases_lt, and_from, and_parts, cases_Bool, le-leb, leb-true, lt-ltb, le-ltb, false_from_ne_true}
 use Rattle.std.proofs.lemmas.Slice.Zip.{all_zipped_more}
-use Rattle.std.specs.List.{AllByRecursion, AllZip}
+use Rattle.std.specs.List.{AllByRecursion}
 use Rattle.std.specs.Option.{option_or, option_to_list}
+use Rattle.lj_base.proofs.Ascending.{AllBelow-from_Has, Ascends-narrow, Has-all}
+use Rattle.lj_base.proofs.Lists.{AllByRecursion-push}
 use Rattle.lj_base.specs.Blocks.{Ascends, Has}
-use Rattle.lj_text.specs.Numbers.{number_of}
+use Rattle.lj_text.specs.Numbers.{Spells, number_of}
 use Rattle.lj_text.specs.Tokens.{token_text, tokens_of}
 use Rattle.lj_text.specs.declared.tokens.Token.{Token}
 use Rattle.lj_blockfile.specs.BlockLines.{AddsPoint, AllDifferent, IsBlockLine, count_fault, first_fault, line_fault, token_fault}
 use Rattle.lj_blockfile.specs.declared.faults.LineFault.{LineFault}
 use Rattle.lj_blockfile.specs.declared.faults.LineFault.TheVariants.{PointRange, Repeat}
-use Rattle.lj_blockfile.proofs.Members.{AllByRecursion-at, AllByRecursion-push, AllDifferent-push, Ascends-below, Has-from_is_among, Has-map_suc, Has-map_suc-zero, Has-push, is_among, is_among-from_Has, is_among-same}
+use Rattle.lj_blockfile.proofs.Members.{AllDifferent-push, Has-from_is_among, Has-map_suc, Has-map_suc-zero, Has-pushed, is_among, is_among-from_Has, is_among-same}
 
 -- ---- the fault of a token
 
@@ -82,7 +84,7 @@ rest_fault v k line count left earlier = option_or (first_fault v line earlier (
 pub record IsUnderway (line : List ℕ) (v k count : ℕ) (left : List Token) (b : List ℕ) : Type 0 where
   pub read : List Token
   pub numbers : List ℕ
-  pub spelled : AllZip (λ token n. number_of (token_text line token) ≡ Some n) read numbers
+  pub spelled : Spells line read numbers
   pub in_range : AllByRecursion (λ n. (1 ≤ n) × (n ≤ v)) numbers
   pub different : AllDifferent numbers
   pub points : (p : ℕ) → Has b p ↔ Has numbers (suc p)
@@ -178,7 +180,7 @@ module _ {line : List ℕ} {v k count : ℕ} {token : Token} {left : List Token}
           different = AllDifferent-push u.numbers n u.different fresh_number;
           points = λ p.
               let added = adds.0 p in
-              let pushed = Has-push u.numbers n (suc p) in
+              let pushed = Has-pushed u.numbers n (suc p) in
               let before = u.points p in (
                 λ h. pushed.1 (⊎_elim (λ e. inl (sym e)) (λ k. inr (before.0 k)) (added.0 h)),
                 λ h. added.1 (⊎_elim (λ e. inl (sym e)) (λ k. inr (before.1 k)) (pushed.0 h)),
@@ -226,13 +228,13 @@ IsBlockLine-end {line} {v} {k} {count} {b} u full just ascends =
     let filled = u.filled in
     let as_many = u.as_many in
     let all : u.read ≡ tokens_of line = sym (append-nil u.read) ∙ u.whole just in
-    let below : (p : ℕ) → Has b p → p < v = λ p h. (AllByRecursion-at _ u.numbers (suc p) u.in_range ((u.points p).0 h)).1 in
+    let below : (p : ℕ) → Has b p → p < v = λ p h. (Has-all _ u.numbers (suc p) u.in_range ((u.points p).0 h)).1 in
     record {
       numbers = u.numbers;
-      spelled = subst (λ tokens. AllZip (λ token n. number_of (token_text line token) ≡ Some n) tokens u.numbers) all u.spelled;
+      spelled = subst (λ tokens. Spells line tokens u.numbers) all u.spelled;
       count = omega arith;
       in_range = u.in_range;
       different = u.different;
-      block = (Ascends-below 0 99 v b ascends below, omega arith);
+      block = (Ascends-narrow 0 99 v b ascends (AllBelow-from_Has v b below), omega arith);
       points = u.points;
     }

@@ -3,18 +3,18 @@ use Rattle.std.proofs.Common.{◌≡◌, ◌↔◌, ℕ, suc, ◌≤◌, List, [
 use Rattle.std.proofs.lemmas.Bool.{le-ltb}
 use Rattle.std.proofs.lemmas.List.{take_all}
 use Rattle.std.proofs.lemmas.Slice.Zip.{AllZip-long}
-use Rattle.std.specs.List.{AllByRecursion, AllZip}
+use Rattle.std.specs.List.{AllByRecursion}
 use Rattle.std.specs.Option.{option_or, option_to_list}
+use Rattle.lj_base.proofs.Ascending.{Has-from}
 use Rattle.lj_base.specs.Blocks.{Ascends, Has}
-use Rattle.lj_text.specs.Numbers.{number_of}
-use Rattle.lj_text.specs.Tokens.{token_text, tokens_of}
+use Rattle.lj_text.specs.Numbers.{Spells}
+use Rattle.lj_text.specs.Tokens.{tokens_of}
 use Rattle.lj_text.specs.declared.tokens.Token.{Token}
 use Rattle.lj_blockfile.specs.BlockLines.{AllDifferent, IsBlockLine, count_fault, first_fault, line_fault, token_fault}
-use Rattle.lj_blockfile.proofs.Members.{Ascends-from}
 use Rattle.lj_blockfile.proofs.Reading.{token_fault-fresh}
 
 -- tokens that spell different numbers in range, none of them earlier, have no fault
-first_fault-none : (v : ℕ) (line earlier : List ℕ) (tokens : List Token) (numbers : List ℕ) → AllZip (λ token n. number_of (token_text line token) ≡ Some n) tokens numbers
+first_fault-none : (v : ℕ) (line earlier : List ℕ) (tokens : List Token) (numbers : List ℕ) → Spells line tokens numbers
     → AllByRecursion (λ n. (1 ≤ n) × (n ≤ v)) numbers → AllDifferent numbers → ((n : ℕ) → Has numbers n → Has earlier n → ⊥)
     → first_fault v line earlier tokens ≡ None
 first_fault-none v line earlier [] [] spelled range different new = refl
@@ -36,8 +36,8 @@ line_fault-none line v k b h =
     ap₂ option_or (ap (first_fault v line []) all ∙ none) (ap (count_fault k) count ∙ just)
 
 -- tokens spell one list of numbers at most
-same_numbers : (line : List ℕ) (tokens : List Token) (ns ms : List ℕ) → AllZip (λ token n. number_of (token_text line token) ≡ Some n) tokens ns
-    → AllZip (λ token n. number_of (token_text line token) ≡ Some n) tokens ms → ns ≡ ms
+pub same_numbers : (line : List ℕ) (tokens : List Token) (ns ms : List ℕ) → Spells line tokens ns
+    → Spells line tokens ms → ns ≡ ms
 same_numbers line [] [] [] h k = refl
 same_numbers line [] [] (m ∷ ms) h k = absurd k
 same_numbers line [] (n ∷ ns) ms h k = absurd h
@@ -53,14 +53,14 @@ same_points lo v w [] [] h k same = refl
 same_points lo v w [] (y ∷ ys) h k same = absurd ((same y).1 (inl refl))
 same_points lo v w (x ∷ xs) [] h k same = absurd ((same x).0 (inl refl))
 same_points lo v w (x ∷ xs) (y ∷ ys) h k same =
-    let low : x ≤ y = ⊎_elim (λ e. omega (arith, e)) (λ j. let above = Ascends-from (suc x) v y xs h.2 j in omega (arith, above)) ((same y).1 (inl refl)) in
-    let high : y ≤ x = ⊎_elim (λ e. omega (arith, e)) (λ j. let above = Ascends-from (suc y) w x ys k.2 j in omega (arith, above)) ((same x).0 (inl refl)) in
+    let low : x ≤ y = ⊎_elim (λ e. omega (arith, e)) (λ j. let above = Has-from (suc x) v y xs h.2 j in omega (arith, above)) ((same y).1 (inl refl)) in
+    let high : y ≤ x = ⊎_elim (λ e. omega (arith, e)) (λ j. let above = Has-from (suc y) w x ys k.2 j in omega (arith, above)) ((same x).0 (inl refl)) in
     let first : x ≡ y = omega arith in
     let rest : Ascends (suc x) w ys = subst (λ n. Ascends (suc n) w ys) (sym first) k.2 in
     let to : (p : ℕ) → Has xs p → Has ys p =
-    λ p j. let above = Ascends-from (suc x) v p xs h.2 j in ⊎_elim (λ e. absurd (omega (arith, above, e, first))) (λ i. i) ((same p).0 (inr j)) in
+    λ p j. let above = Has-from (suc x) v p xs h.2 j in ⊎_elim (λ e. absurd (omega (arith, above, e, first))) (λ i. i) ((same p).0 (inr j)) in
     let from : (p : ℕ) → Has ys p → Has xs p =
-    λ p j. let above = Ascends-from (suc y) w p ys k.2 j in ⊎_elim (λ e. absurd (omega (arith, above, e, first))) (λ i. i) ((same p).1 (inr j)) in
+    λ p j. let above = Has-from (suc y) w p ys k.2 j in ⊎_elim (λ e. absurd (omega (arith, above, e, first))) (λ i. i) ((same p).1 (inr j)) in
     ap₂ (λ z zs. z ∷ zs) first (same_points (suc x) v w xs ys h.2 rest (λ p. (to p, from p)))
 
 pub same_block : (line : List ℕ) (v k : ℕ) (b c : List ℕ) → IsBlockLine line v k b → IsBlockLine line v k c → b ≡ c

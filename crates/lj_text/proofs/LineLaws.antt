@@ -1,9 +1,11 @@
 -- Laws of the lines of a text: where they stand, and that written lines read back.
-use Rattle.std.proofs.Common.{◌≡◌, ℕ, suc, ◌+◌, ◌-◌, ◌≤◌, true, false, eqb, List, [], ◌∷◌, ◌++◌, length, take, refl, sym, ap, ◌∙◌, subst, arith, ⊎_elim, ◌≢◌, map, append_assoc, length-append, ap₂, ne_eqb}
+use Rattle.std.proofs.Common.{◌<◌, ◌≡◌, ℕ, suc, ◌+◌, ◌-◌, ◌≤◌, true, false, eqb, List, [], ◌∷◌, ◌++◌, length, take, refl, sym, ap, ◌∙◌, subst, arith, ⊎_elim, ◌≢◌, map, append_assoc, length-append, ap₂, ne_eqb}
 use Rattle.std.proofs.lemmas.Bool.{cases_Bool}
 use Rattle.std.proofs.lemmas.List.{drop_at, take_at}
 use Rattle.std.specs.List.{AllByRecursion, list_all}
-use Rattle.lj_text.specs.Lines.{IsLineOf, IsPlain, cut_lines, is_blank, line_text, lines_from, onto, placed_from, text_lines, with_feeds, without_return}
+use Rattle.lj_base.proofs.Lists.{AllByRecursion-weaker}
+use Rattle.lj_text.specs.declared.lines.Line.{Line}
+use Rattle.lj_text.specs.Lines.{IsLineNumber, IsLineOf, IsPlain, cut_lines, is_blank, line_text, line_total, lines_from, onto, placed_from, text_lines, with_feeds, without_return}
 
 -- the lines, from a place on, with a byte behind each but the last, end by n
 abbrev EndBy : ℕ → List (List ℕ) → ℕ → Type 0
@@ -67,6 +69,26 @@ length-cut_lines (b ∷ bs) =
     (λ (h : eqb b 10 ≡ true). rw h (omega arith))
     (λ (h : eqb b 10 ≡ false). rw h (omega (arith, length-onto b (cut_lines bs))))
     (cases_Bool (eqb b 10))
+
+-- ---- the numbers of lines
+
+within_numbers : (low high : ℕ) (lines : List (List ℕ)) (number start : ℕ) → low ≤ number → number + length lines ≤ high
+    → AllByRecursion (λ line. (low ≤ line.number) × (line.number < high)) (lines_from number start lines)
+within_numbers low high [] number start from to = tt
+within_numbers low high (line ∷ lines) number start from to =
+    let rest = within_numbers low high lines (suc number) (start + length line + 1) (omega arith) (omega arith) in
+    let text = without_return line in
+    ⊎_elim
+    (λ (k : list_all is_blank text ≡ true). rw k rest)
+    (λ (k : list_all is_blank text ≡ false). rw k ((omega arith, omega arith), rest))
+    (cases_Bool (list_all is_blank text))
+
+pub are_line_numbers : (bytes : List ℕ) → AllByRecursion (λ line. IsLineNumber bytes line.number) (text_lines bytes)
+are_line_numbers bytes =
+    let few = length-cut_lines bytes in
+    AllByRecursion-weaker (λ (line : Line). (1 ≤ line.number) × (line.number < 1 + line_total bytes)) (λ line. IsLineNumber bytes line.number) (text_lines bytes)
+    (λ line known. record { some = known.0; within = omega (arith, known.1); small = omega (arith, known.1, few) })
+    (within_numbers 1 (1 + line_total bytes) (cut_lines bytes) 1 0 (omega arith) (omega arith))
 
 pub length-text_lines : (bytes : List ℕ) → length (text_lines bytes) ≤ length bytes
 length-text_lines bytes = omega (arith, length-lines_from (cut_lines bytes) 1 0, length-cut_lines bytes)

@@ -1,5 +1,5 @@
 -- Words without LF and CR: joined by spaces they are a plain line, whose words they are.
-use Rattle.std.proofs.Common.{◌≡◌, ◌≢◌, ℕ, ◌^◌, ◌<◌, ◌≤◌, false, eqb, List, [], ◌∷◌, ◌++◌, decimal, length, map}
+use Rattle.std.proofs.Common.{◌≡◌, ◌≢◌, ℕ, ◌^◌, ◌<◌, ◌≤◌, false, eqb, List, [], ◌∷◌, ◌++◌, decimal, map}
 use Rattle.std.proofs.Common.{refl, sym, ap, ◌∙◌, subst, arith, append-nil, length-append, ne_eqb}
 use Rattle.std.proofs.lemmas.Bool.{and_left, eqb-false, or_from, or_parts}
 use Rattle.std.proofs.lemmas.Fmt.{decimal_nonempty}
@@ -110,11 +110,3 @@ IsPlainWord-join byte free (w ∷ (v ∷ ws)) h =
     let more : IsPlainWord rest = IsPlainWord-join byte free (v ∷ ws) (omega arith, h.1.1) in
     let first = h.1.0.0 in
     (omega (arith, length-append w (byte ∷ rest), first), list_any-append is_separator w (byte ∷ rest) ∙ or_from _ _ h.1.0.1 (or_from _ _ free more.1))
-
--- numbers that are joined by spaces
-are_plain_numbers : (ns : List ℕ) → AllByRecursion (λ n. n < 2 ^ 64) ns → AllByRecursion IsPlainWord (map decimal ns)
-are_plain_numbers ns h = AllByRecursion-map (λ n. n < 2 ^ 64) IsPlainWord decimal ns IsPlainWord-decimal h
-
-pub IsPlain-numbers : (ns : List ℕ) → 1 ≤ length ns → AllByRecursion (λ n. n < 2 ^ 64) ns → IsPlain (join_by_space (map decimal ns))
-IsPlain-numbers [] some h = absurd (omega arith)
-IsPlain-numbers (n ∷ ns) some h = IsPlain-words (map decimal (n ∷ ns)) (omega arith, are_plain_numbers (n ∷ ns) h)

@@ -1,8 +1,8 @@
 ghost use Rattle.std.specs.Prelude.{◌≡◌, ◌+◌, ◌^◌, ◌<◌, ◌≤◌, ℕ, List, ◌∷◌, ◌++◌, Some, IsFalse, decimal, length, map};
 ghost use Rattle.std.specs.List.{AllByRecursion, join_with_byte};
 ghost use Rattle.lj_text.specs.Fields.{after_each};
-ghost use Rattle.lj_text.specs.Lines.{IsLineOf, IsPlain, StandFrom, cut_lines, line_text, lines_from, placed_from, text_lines, with_feeds};
-ghost use Rattle.lj_text.specs.Numbers.{number_of};
+ghost use Rattle.lj_text.specs.Lines.{IsLineNumber, IsLineOf, IsPlain, StandFrom, cut_lines, line_text, lines_from, placed_from, text_lines, with_feeds};
+ghost use Rattle.lj_text.specs.Numbers.{Spells, number_of};
 ghost use Rattle.lj_text.specs.Tokens.{ArePlainWords, IsPlainWord, IsTokenOf, IsWord, is_separator, join_by_space, tokens_of, words, words_of};
 ghost use Rattle.lj_text.specs.declared.lines.Line.{Line};
 
@@ -28,6 +28,14 @@ pub fn words_law()
     ensures decimal { (n : ℕ) → n < 2 ^ 64 → IsPlainWord (decimal n) }
     ensures joined { (byte : ℕ) (ws : List (List ℕ)) → IsFalse (is_separator byte) → ArePlainWords ws →
         IsPlainWord (join_with_byte byte ws) }
+{}
+
+/// Numbers of at most 18 digits that are joined by spaces are a plain line, whose tokens spell them.
+pub fn number_line_law()
+    ensures plain { (ns : List ℕ) → 1 ≤ length ns → AllByRecursion (λ n. n < 10 ^ 18) ns →
+        IsPlain (join_by_space (map decimal ns)) }
+    ensures spelled { (ns : List ℕ) → AllByRecursion (λ n. n < 10 ^ 18) ns →
+        (let line = join_by_space (map decimal ns) in Spells line (tokens_of line) ns) }
 {}
 
 /// Fields that are joined by a byte are the first of them, and the others each after the byte.
@@ -62,4 +70,9 @@ pub fn line_order_law()
         StandFrom bytes place others }
     ensures inside { (bytes : List ℕ) (place : ℕ) (lines : List Line) → StandFrom bytes place lines →
         AllByRecursion (IsLineOf bytes) lines }
+{}
+
+/// The lines of a text that are not blank have numbers of its lines: from 1, blank ones counted.
+pub fn line_numbers_law()
+    ensures { (bytes : List ℕ) → AllByRecursion (λ line. IsLineNumber bytes line.number) (text_lines bytes) }
 {}
