@@ -28,8 +28,10 @@ abbrev SameFault : ℕ → LineFault → ℕ → LineFault → Type 0
 SameFault n f m g = (n ≡ m) × (f ≡ g)
 
 -- by what the first line has
-by_first : (P : ℕ → LineFault → Type 0) (number n m : ℕ) (f g : LineFault) (first : Option LineFault) → (P n f → P m g → SameFault n f m g)
-    → MatchOption first (P n f) (λ own. (n ≡ number) × (f ≡ own)) → MatchOption first (P m g) (λ own. (m ≡ number) × (g ≡ own))
+by_first : (P : ℕ → LineFault → Type 0) (number n m : ℕ) (f g : LineFault) (first : Option LineFault)
+    → (P n f → P m g → SameFault n f m g)
+    → MatchOption first (P n f) (λ own. (n ≡ number) × (f ≡ own))
+    → MatchOption first (P m g) (λ own. (m ≡ number) × (g ≡ own))
     → SameFault n f m g
 by_first P number n m f g None others h j = others h j
 by_first P number n m f g (Some own) others h j = (h.0 ∙ sym j.0, h.1 ∙ sym j.1)
@@ -38,10 +40,12 @@ one_first : (body : List ℕ) (v k : ℕ) (lines : List Line) (n m : ℕ) (f g :
     → IsFirstFaulty body v k lines m g → SameFault n f m g
 one_first body v k [] n m f g h j = absurd h
 one_first body v k (line ∷ lines) n m f g h j =
-    by_first (λ number fault. IsFirstFaulty body v k lines number fault) line.number n m f g (line_fault v k (line_text body line))
+    by_first (λ number fault. IsFirstFaulty body v k lines number fault) line.number n m f g
+    (line_fault v k (line_text body line))
     (one_first body v k lines n m f g) h j
 
-pub one_fault : (body : List ℕ) (v k : ℕ) (one other : BodyFault) → IsBodyFault body v k one → IsBodyFault body v k other
+pub one_fault : (body : List ℕ) (v k : ℕ) (one other : BodyFault) → IsBodyFault body v k one
+    → IsBodyFault body v k other
     → IsInputFault one → IsInputFault other → one ≡ other
 one_fault body v k (Blocks n) (Blocks m) h j is also = ap Blocks (h.0 ∙ sym j.0)
 one_fault body v k (Blocks n) (LineAt m g) h j is also = absurd (omega (arith, h.0, h.1, j.0))
@@ -66,7 +70,8 @@ one_header body one other h j =
     let numbers : List ℕ = other.cell.v ∷ other.cell.k ∷ other.cell.t ∷ other.n ∷ [] in
     let spelled : Spells text (tokens_of text) numbers =
     subst (λ (line : Line). Spells (line_text body line) (tokens_of (line_text body line)) numbers) first j.spelled in
-    let same : one.cell.v ∷ one.cell.k ∷ one.cell.t ∷ one.n ∷ [] ≡ numbers = same_numbers text (tokens_of text) _ numbers h.spelled spelled in
+    let same : one.cell.v ∷ one.cell.k ∷ one.cell.t ∷ one.n ∷ [] ≡ numbers =
+    same_numbers text (tokens_of text) _ numbers h.spelled spelled in
     let line : one.line ≡ other.line = h.line_is ∙ ap (λ (l : Line). l.number) (sym first) ∙ sym j.line_is in
     let rest : one.rest ≡ other.rest = h.rest_is ∙ ap (after_line body) (sym first) ∙ sym j.rest_is in
     let v : one.cell.v ≡ other.cell.v = cc in

@@ -25,7 +25,8 @@ module _ (b before now : List ℕ) (i p : ℕ) (inside : i < length b) (point : 
   next_point : take (i + 1) b ≡ take i b ++ p ∷ []
   next_point = take_more b i 0 inside ∙ ap (λ q. take i b ++ q ∷ []) (sym point)
 
-  pub block_line-first : i ≤ 0 → now ≡ (before ++ block_line (take i b)) ++ decimal (p + 1) → now ≡ before ++ block_line (take (i + 1) b)
+  pub block_line-first : i ≤ 0 → now ≡ (before ++ block_line (take i b)) ++ decimal (p + 1)
+      → now ≡ before ++ block_line (take (i + 1) b)
   block_line-first first is =
       let start : i ≡ 0 = omega arith in
       let next : p + 1 ≡ suc p = omega arith in
@@ -36,7 +37,8 @@ module _ (b before now : List ℕ) (i p : ℕ) (inside : i < length b) (point : 
       ∙ ap₂ (λ line n. line ++ decimal n) (append-nil before) next
       ∙ ap (λ ps. before ++ block_line ps) (sym one)
 
-  pub block_line-next : 0 < i → now ≡ (before ++ block_line (take i b)) ++ 32 ∷ decimal (p + 1) → now ≡ before ++ block_line (take (i + 1) b)
+  pub block_line-next : 0 < i → now ≡ (before ++ block_line (take i b)) ++ 32 ∷ decimal (p + 1)
+      → now ≡ before ++ block_line (take (i + 1) b)
   block_line-next later is =
       let line = block_line (take i b) in
       let next : p + 1 ≡ suc p = omega arith in
@@ -59,18 +61,24 @@ in_range-map_suc lo v (p ∷ b) h = ((omega arith, omega (arith, h.1)), in_range
 
 AllDifferent-map_suc : (lo v : ℕ) (b : List ℕ) → Ascends lo v b → AllDifferent (map suc b)
 AllDifferent-map_suc lo v [] h = tt
-AllDifferent-map_suc lo v (p ∷ b) h =
-    (λ k. let above = Has-from (suc p) v p b h.2 ((Has-map_suc b p).0 k) in omega (arith, above), AllDifferent-map_suc (suc p) v b h.2)
+AllDifferent-map_suc lo v (p ∷ b) h = (
+  λ k. let above = Has-from (suc p) v p b h.2 ((Has-map_suc b p).0 k) in omega (arith, above),
+  AllDifferent-map_suc (suc p) v b h.2,
+)
 
 few_digits : (v : ℕ) (b : List ℕ) → Ascends 0 v b → v ≤ 99 → AllByRecursion (λ n. n < 10 ^ 18) (map suc b)
 few_digits v b h small =
-    AllByRecursion-weaker (λ n. (1 ≤ n) × (n ≤ v)) (λ n. n < 10 ^ 18) (map suc b) (λ n range. omega (arith, range.1, small)) (in_range-map_suc 0 v b h)
+    AllByRecursion-weaker (λ n. (1 ≤ n) × (n ≤ v)) (λ n. n < 10 ^ 18) (map suc b)
+    (λ n range. omega (arith, range.1, small)) (in_range-map_suc 0 v b h)
 
-pub IsBlockLine-block_line : ((ns : List ℕ) → AllByRecursion (λ n. n < 10 ^ 18) ns → Spells (join_by_space (map decimal ns)) (tokens_of (join_by_space (map decimal ns))) ns)
+pub IsBlockLine-block_line : ((ns : List ℕ) → AllByRecursion (λ n. n < 10 ^ 18) ns
+    → Spells (join_by_space (map decimal ns)) (tokens_of (join_by_space (map decimal ns))) ns)
     → (v k : ℕ) (b : List ℕ) → v ≤ 99 → IsBlock v k b → IsBlockLine (block_line b) v k b
 IsBlockLine-block_line spelled v k b small h = record {
   numbers = map suc b;
-  spelled = subst (λ line. Spells line (tokens_of line) (map suc b)) (block_line-numbers b) (spelled (map suc b) (few_digits v b h.0 small));
+  spelled =
+      subst (λ line. Spells line (tokens_of line) (map suc b)) (block_line-numbers b)
+      (spelled (map suc b) (few_digits v b h.0 small));
   count = length-map b suc ∙ h.1;
   in_range = in_range-map_suc 0 v b h.0;
   different = AllDifferent-map_suc 0 v b h.0;
@@ -78,7 +86,8 @@ IsBlockLine-block_line spelled v k b small h = record {
   points = λ p. ((Has-map_suc b p).1, (Has-map_suc b p).0);
 }
 
-pub IsPlain-block_line : ((ns : List ℕ) → 1 ≤ length ns → AllByRecursion (λ n. n < 10 ^ 18) ns → IsPlain (join_by_space (map decimal ns)))
+pub IsPlain-block_line : ((ns : List ℕ) → 1 ≤ length ns → AllByRecursion (λ n. n < 10 ^ 18) ns
+    → IsPlain (join_by_space (map decimal ns)))
     → (v k : ℕ) (b : List ℕ) → 1 ≤ k → v ≤ 99 → IsBlock v k b → IsPlain (block_line b)
 IsPlain-block_line plain v k b some small h =
     let count : length (map suc b) ≡ k = length-map b suc ∙ h.1 in

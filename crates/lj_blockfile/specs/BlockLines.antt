@@ -1,5 +1,6 @@
 -- Block lines: k different points from 1 to v, in any order. Inside the program points are numbered from 0.
-use Rattle.std.specs.Prelude.{◌≡◌, ℕ, suc, ◌+◌, ◌≤◌, ◌&&◌, ◌⊎◌, ◌↔◌, nat_eq, nat_le, nat_lt, if◌then◌else◌, List, [], ◌∷◌, ◌++◌}
+use Rattle.std.specs.Prelude.{◌≡◌, ℕ, suc, ◌+◌, ◌≤◌, ◌&&◌, ◌⊎◌, ◌↔◌, nat_eq, nat_le, nat_lt, if◌then◌else◌, List, []}
+use Rattle.std.specs.Prelude.{◌∷◌, ◌++◌}
 use Rattle.std.specs.Prelude.{Option, None, Some, length, map, take, decimal}
 use Rattle.std.specs.Option.{option_or, option_to_list}
 use Rattle.std.specs.List.{AllByRecursion, list_any}

@@ -8,7 +8,8 @@ use Rattle.lj_blockfile.specs.BlockFiles.{blocks_text}
 use Rattle.lj_text.specs.Numbers.{Spells}
 use Rattle.lj_blockfile.specs.declared.headers.Header.{Header}
 
--- the first line that is not blank has four numbers: v, k and t of a cell with k of 1 or more, and the number of blocks;
+-- the first line that is not blank has four numbers: v, k and t of a cell with k of 1 or more, and the number of
+-- blocks;
 -- the header has the line's number, and the place after it
 pub record IsHeader (body : List ℕ) (header : Header) : Type 0 where
   pub first : Line

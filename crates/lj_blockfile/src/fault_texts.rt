@@ -6,8 +6,8 @@ use crate::faults::{BodyFault, LineFault};
 use lj_base::Memory;
 use lj_text::{cut_back, put, put_named};
 
-/// Appends the words for what is wrong with a line: `column C not a number`, `point X out of range`, `point X repeated`,
-/// `too few points X` or `too many points X`.
+/// Appends the words for what is wrong with a line: `column C not a number`, `point X out of range`,
+/// `point X repeated`, `too few points X` or `too many points X`.
 pub fn put_line_fault(out: &mut Vec<u8>, fault: &LineFault) -> Result<(), Memory>
     ensures ok { OnOk result (out.new.items ≡ out.old.items ++ line_fault_text fault.now) }
     ensures err { OnErr result (out.new.items ≡ out.old.items) }

@@ -1,4 +1,5 @@
-ghost use Rattle.std.specs.Prelude.{◌≡◌, ℕ, ◌+◌, ◌≤◌, [], ◌∷◌, ◌++◌, drop, take, length, IfOk, IfSome, IsNone, List, Ok, OnErr, OnOk, Some};
+ghost use Rattle.std.specs.Prelude.{◌≡◌, ℕ, ◌+◌, ◌≤◌, [], ◌∷◌, ◌++◌, drop, take, length, IfOk, IfSome, IsNone, List};
+ghost use Rattle.std.specs.Prelude.{Ok, OnErr, OnOk, Some};
 ghost use Rattle.std.specs.List.{AllByRecursion};
 ghost use Rattle.lj_base.specs.Blocks.{AreBlocks};
 ghost use Rattle.lj_text.specs.Fields.{Extends};
@@ -14,8 +15,8 @@ use lj_base::{Block, Cell, MAX_BLOCKS, Memory};
 use lj_text::{Lines, Tokens, after_line, cut_back, line_numbers_law, number, put, put_joined};
 use thiserror::Error;
 
-/// The first line of a block file: its cell, the number of its blocks, the line's number from 1 with blank lines counted,
-/// and the place of the first byte after it.
+/// The first line of a block file: its cell, the number of its blocks, the line's number from 1 with blank lines
+/// counted, and the place of the first byte after it.
 #[derive(Clone, Copy, Debug, PartialEq, Eq)]
 pub struct Header {
     pub cell: Cell,
@@ -29,8 +30,8 @@ pub struct Header {
 #[error("no header")]
 pub struct NoHeader;
 
-/// The header of a block file: four numbers on the first line that is not blank, V, K and T of a cell with K of 1 or more,
-/// and the number of blocks. It looks at no further line, and takes no memory.
+/// The header of a block file: four numbers on the first line that is not blank, V, K and T of a cell with K of 1 or
+/// more, and the number of blocks. It looks at no further line, and takes no memory.
 pub fn read_header(body: &[u8]) -> Result<Header, NoHeader>
     ensures header { IfOk result (IsHeader body.now) }
     ensures within { IfOk result (λ header. header.rest ≤ length body.now) }

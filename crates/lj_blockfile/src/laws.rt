@@ -37,23 +37,23 @@ pub fn file_law()
           line = 1;
           rest = length (header_line c (length bs)) + 1;
         }) }
-    ensures blocks { (c : Triple) (bs : List (List ℕ)) → IsCell c → 1 ≤ c.k → length bs ≤ MAX_BLOCKS → AreBlocks c.v c.k bs →
-        AreBlocksOf (drop (length (header_line c (length bs)) + 1) (file_text c bs)) c.v c.k bs }
+    ensures blocks { (c : Triple) (bs : List (List ℕ)) → IsCell c → 1 ≤ c.k → length bs ≤ MAX_BLOCKS →
+        AreBlocks c.v c.k bs → AreBlocksOf (drop (length (header_line c (length bs)) + 1) (file_text c bs)) c.v c.k bs }
 {
     written_law();
     number_line_law();
     lines_law();
 }
 
-/// A text has one reading: a line is that of one block at most; a text has one list of blocks at most, or one fault; and
-/// it has one header at most.
+/// A text has one reading: a line is that of one block at most; a text has one list of blocks at most, or one fault;
+/// and it has one header at most.
 pub fn one_reading_law()
     ensures line { (line : List ℕ) (v k : ℕ) (b c : List ℕ) → IsBlockLine line v k b → IsBlockLine line v k c → b ≡ c }
-    ensures blocks { (body : List ℕ) (v k : ℕ) (bs cs : List (List ℕ)) → AreBlocksOf body v k bs → AreBlocksOf body v k cs →
-        bs ≡ cs }
+    ensures blocks { (body : List ℕ) (v k : ℕ) (bs cs : List (List ℕ)) → AreBlocksOf body v k bs →
+        AreBlocksOf body v k cs → bs ≡ cs }
     ensures either { (body : List ℕ) (v k : ℕ) (bs : List (List ℕ)) (fault : BodyFault) → AreBlocksOf body v k bs →
         IsBodyFault body v k fault → IsInputFault fault → ⊥ }
-    ensures fault { (body : List ℕ) (v k : ℕ) (one other : BodyFault) → IsBodyFault body v k one → IsBodyFault body v k other →
-        IsInputFault one → IsInputFault other → one ≡ other }
+    ensures fault { (body : List ℕ) (v k : ℕ) (one other : BodyFault) → IsBodyFault body v k one →
+        IsBodyFault body v k other → IsInputFault one → IsInputFault other → one ≡ other }
     ensures header { (body : List ℕ) (one other : Header) → IsHeader body one → IsHeader body other → one ≡ other }
 {}

@@ -1,4 +1,5 @@
-ghost use Rattle.std.specs.Prelude.{◌≡◌, ℕ, suc, ◌<◌, ◌≤◌, IfErr, IfOk, IfSome, List, MatchResult, None, OnOk, Some, length, map};
+ghost use Rattle.std.specs.Prelude.{◌≡◌, ℕ, suc, ◌<◌, ◌≤◌, IfErr, IfOk, IfSome, List, MatchResult, None, OnOk, Some};
+ghost use Rattle.std.specs.Prelude.{length, map};
 ghost use Rattle.std.specs.Result.{result_err};
 ghost use Rattle.lj_base.specs.Blocks.{AreBlocks};
 ghost use Rattle.lj_text.specs.Lines.{text_lines};

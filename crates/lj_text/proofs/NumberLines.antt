@@ -15,11 +15,13 @@ are_plain_numbers ns h = AllByRecursion-map (λ n. n < 2 ^ 64) IsPlainWord decim
 fit : (ns : List ℕ) → AllByRecursion (λ n. n < 10 ^ 18) ns → AllByRecursion (λ n. n < 2 ^ 64) ns
 fit ns h = AllByRecursion-weaker (λ n. n < 10 ^ 18) (λ n. n < 2 ^ 64) ns (λ n small. omega (arith, small)) h
 
-pub IsPlain-numbers : (ns : List ℕ) → 1 ≤ length ns → AllByRecursion (λ n. n < 2 ^ 64) ns → IsPlain (join_by_space (map decimal ns))
+pub IsPlain-numbers : (ns : List ℕ) → 1 ≤ length ns → AllByRecursion (λ n. n < 2 ^ 64) ns
+    → IsPlain (join_by_space (map decimal ns))
 IsPlain-numbers [] some h = absurd (omega arith)
 IsPlain-numbers (n ∷ ns) some h = IsPlain-words (map decimal (n ∷ ns)) (omega arith, are_plain_numbers (n ∷ ns) h)
 
-pub IsPlain-small_numbers : (ns : List ℕ) → 1 ≤ length ns → AllByRecursion (λ n. n < 10 ^ 18) ns → IsPlain (join_by_space (map decimal ns))
+pub IsPlain-small_numbers : (ns : List ℕ) → 1 ≤ length ns → AllByRecursion (λ n. n < 10 ^ 18) ns
+    → IsPlain (join_by_space (map decimal ns))
 IsPlain-small_numbers ns some h = IsPlain-numbers ns some (fit ns h)
 
 -- tokens whose texts are the decimal digits of numbers spell these
@@ -37,4 +39,5 @@ pub Spells-numbers : (ns : List ℕ) → AllByRecursion (λ n. n < 10 ^ 18) ns
     → Spells (join_by_space (map decimal ns)) (tokens_of (join_by_space (map decimal ns))) ns
 Spells-numbers ns h =
     let line = join_by_space (map decimal ns) in
-    spelled_by (token_text line) (tokens_of line) ns h (words_of-join (map decimal ns) (are_plain_numbers ns (fit ns h)))
+    spelled_by (token_text line) (tokens_of line) ns h
+    (words_of-join (map decimal ns) (are_plain_numbers ns (fit ns h)))

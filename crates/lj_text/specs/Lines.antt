@@ -1,6 +1,7 @@
 -- The lines of a text. A line ends at LF or at the end of the text, and one CR at its end is left off.
 -- A line of blanks alone is blank. The last LF begins no further line.
-use Rattle.std.specs.Prelude.{◌≡◌, ◌≢◌, ℕ, suc, ◌+◌, ◌≤◌, Bool, ◌||◌, ◌==◌, if◌then◌else◌, min, List, [], ◌∷◌, ◌++◌, drop, length, slice_range, IsFalse}
+use Rattle.std.specs.Prelude.{◌≡◌, ◌≢◌, ℕ, suc, ◌+◌, ◌≤◌, Bool, ◌||◌, ◌==◌, if◌then◌else◌, min, List, [], ◌∷◌, ◌++◌}
+use Rattle.std.specs.Prelude.{drop, length, slice_range, IsFalse}
 use Rattle.std.specs.List.{AllByRecursion, flat_map, list_all, position_or_len}
 use Rattle.lj_text.specs.declared.lines.Line.{Line}
 
@@ -30,7 +31,8 @@ lines_from number start [] = []
 lines_from number start (line ∷ lines) =
     let rest = lines_from (suc number) (start + length line + 1) lines in
     let text = without_return line in
-    if list_all is_blank text then rest else record { number = number; start = start; stop = start + length text } ∷ rest
+    if list_all is_blank text then rest
+    else record { number = number; start = start; stop = start + length text } ∷ rest
 
 -- the lines of a text that are not blank, in order
 abbrev pub text_lines : List ℕ → List Line
@@ -71,9 +73,11 @@ with_feeds lines = flat_map (λ line. line ++ 10 ∷ []) lines
 abbrev pub placed_from : ℕ → ℕ → List (List ℕ) → List Line
 placed_from number start [] = []
 placed_from number start (line ∷ lines) =
-    record { number = number; start = start; stop = start + length line } ∷ placed_from (suc number) (start + length line + 1) lines
+    record { number = number; start = start; stop = start + length line } ∷ placed_from (suc number)
+    (start + length line + 1) lines
 
 -- from a place on, the lines stand in the text, each after the one before
 abbrev pub StandFrom : List ℕ → ℕ → List Line → Type 0
 StandFrom bytes place [] = Unit {0}
-StandFrom bytes place (line ∷ lines) = (place ≤ line.start) × IsLineOf bytes line × StandFrom bytes (after_line bytes line) lines
+StandFrom bytes place (line ∷ lines) =
+    (place ≤ line.start) × IsLineOf bytes line × StandFrom bytes (after_line bytes line) lines

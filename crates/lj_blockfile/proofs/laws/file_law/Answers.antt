@@ -7,4 +7,7 @@ returns c =
     let plain = c.number_line_law.ensures.plain in
     let spelled = c.number_line_law.ensures.spelled in
     let written = c.written_law.ensures in
-    record { header = IsHeader-file_text first plain spelled written; blocks = AreBlocksOf-file_text first plain spelled written }
+    record {
+      header = IsHeader-file_text first plain spelled written;
+      blocks = AreBlocksOf-file_text first plain spelled written;
+    }

@@ -9,9 +9,13 @@ loop-i-preserved c =
     let point = c.at.result in
     elim c.if-i-gt0.branch [
       | then-i-gt0+in_ok-put_number_field w ↦
-          let out = ap (λ out. out.items) w.out-is ∙ w.in_ok-put_number_field.ensures.ok ∙ ap (λ items. items ++ 32 ∷ decimal (point + 1)) c.loop-i.invariant in
+          let out =
+          ap (λ out. out.items) w.out-is ∙ w.in_ok-put_number_field.ensures.ok
+          ∙ ap (λ items. items ++ 32 ∷ decimal (point + 1)) c.loop-i.invariant in
           block_line-next c.args.block.now before _ c.loop-i.i point (omega arith) c.at.ensures (omega arith) out
       | else-i-gt0+in_ok-put_number w ↦
-          let out = ap (λ out. out.items) w.out-is ∙ w.in_ok-put_number.ensures.ok ∙ ap (λ items. items ++ decimal (point + 1)) c.loop-i.invariant in
+          let out =
+          ap (λ out. out.items) w.out-is ∙ w.in_ok-put_number.ensures.ok
+          ∙ ap (λ items. items ++ decimal (point + 1)) c.loop-i.invariant in
           block_line-first c.args.block.now before _ c.loop-i.i point (omega arith) c.at.ensures (omega arith) out
     ]
