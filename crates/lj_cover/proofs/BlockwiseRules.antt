@@ -8,7 +8,7 @@ use Rattle.lj_cover.specs.Rules.{Rule, One, Runs, All, Leaf, Derived, Derived2, 
 use Rattle.lj_cover.specs.BlockLists.{cut_sizes}
 use Rattle.lj_cover.specs.Operations.{cut}
 use Rattle.lj_cover.specs.Sources.{IsBlockwise, gives, share, source}
-use Rattle.lj_cover.proofs.Expanding.{length-cut_blocks}
+use Rattle.lj_cover.proofs.RulesCover.{length-cut_blocks}
 
 -- what is kept by a test and changed by f, block by block
 kept_each : (p : List ℕ → Bool) (f : List ℕ → List ℕ) (bs : List (List ℕ))

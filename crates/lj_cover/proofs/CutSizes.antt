@@ -5,15 +5,14 @@ use Rattle.std.proofs.lemmas.List.FromFn.{get_or-map-range_with_len, length-map-
 use Rattle.std.proofs.lemmas.List.Sums.{sum_by-cons}
 use Rattle.std.specs.List.{Contains, count_by, filter, list_any, range_with_len}
 use Rattle.lj_base.specs.Blocks.{AreBlocks, Ascends, Has}
+use Rattle.lj_base.proofs.Ascending.{Ascends-range, Ascends-wider, Has-from, Has-range, length-ascending}
 use Rattle.lj_cover.specs.BlockLists.{at_size, cut_sizes}
 use Rattle.lj_cover.specs.Cuts.{IsCutSize, sizes_in}
 use Rattle.lj_cover.specs.Instances.{cut_counts}
 use Rattle.lj_cover.specs.Operations.{cut}
-use Rattle.lj_cover.proofs.Cutting.{Ascends-cut, length-cut}
-use Rattle.lj_cover.proofs.Growing.{passes_filter}
-use Rattle.lj_cover.proofs.Inducing.{Has-filter, Has-range}
-use Rattle.lj_cover.proofs.Points.{Ascends-wider, from-Has, length-ascending}
-use Rattle.lj_cover.proofs.Bases.{Ascends-range}
+use Rattle.lj_cover.proofs.CutsOfBlocks.{Ascends-cut, length-cut}
+use Rattle.lj_cover.proofs.PricesGrow.{passes_filter}
+use Rattle.lj_cover.proofs.InducedRule.{Has-filter}
 
 -- whether some block has l points below w
 abbrev pub is_size : ℕ → List (List ℕ) → ℕ → Bool
@@ -54,7 +53,7 @@ sizes_are_of_cuts v m k w l bs blocks = (of_cut, there)
     of_cut : Has (cut_sizes k w bs) l → IsCutSize k w bs l
     of_cut has =
         let member = passes_filter (is_size w bs) (range_with_len (suc k) (w - k)) l has in
-        let above = from-Has (suc k) (suc k + (w - k)) (range_with_len (suc k) (w - k)) l (Ascends-range (suc k) (w - k)) member.member in
+        let above = Has-from (suc k) (suc k + (w - k)) l (range_with_len (suc k) (w - k)) (Ascends-range (suc k) (w - k)) member.member in
         let found = some_cut w l bs member.passes in
         record { larger = omega arith; block = found.block; is_one = found.is_one; size_is = found.size_is }
 

@@ -3,9 +3,9 @@ use Rattle.std.proofs.Common.{◌≡◌, ℕ, suc, ◌+◌, ◌-◌, ◌<◌, �
 use Rattle.std.proofs.lemmas.Bool.{cases_lt, cases_order}
 use Rattle.std.proofs.lemmas.List.{drop_all, drop_more}
 use Rattle.lj_base.specs.Blocks.{AllBelow, Ascends}
+use Rattle.lj_base.proofs.Ascending.{AllBelow-push, AllBelow-wider}
 use Rattle.lj_cover.specs.Operations.{add_missing, fill}
-use Rattle.lj_cover.proofs.Appending.{AllBelow-wider, add_missing_new, add_missing_own}
-use Rattle.lj_cover.proofs.Points.{AllByRecursion-append}
+use Rattle.lj_cover.proofs.AppendedPoints.{add_missing_new, add_missing_own}
 
 -- the filled points, of those below `point`, so many of the block's own, and how many are still missing
 pub record IsFilling (k : ℕ) (b filled : List ℕ) (taken missing point placed : ℕ) : Type 0 where
@@ -25,9 +25,6 @@ next_own k taken missing point placed b filled h inside = subst (Ascends point 9
 pub own_above : (k taken missing point placed : ℕ) (b filled : List ℕ) → IsFilling k b filled taken missing point placed → taken < length b → AllBelow (get_or b taken 0) filled
 own_above k taken missing point placed b filled h inside =
     AllBelow-wider point (get_or b taken 0) filled (next_own k taken missing point placed b filled h inside).0 h.below
-
-AllBelow-push : (p : ℕ) (xs : List ℕ) → AllBelow p xs → AllBelow (p + 1) (xs ++ p ∷ [])
-AllBelow-push p xs h = AllByRecursion-append (λ x. x < p + 1) xs (p ∷ []) (AllBelow-wider p (p + 1) xs (omega arith) h) (omega arith, tt)
 
 pub step_own : (k taken missing point placed : ℕ) (b filled : List ℕ) → IsFilling k b filled taken missing point placed → taken < length b
     → (missing ≡ 0) ⊎ (get_or b taken 0 ≡ point) → IsFilling k b (filled ++ get_or b taken 0 ∷ []) (taken + 1) missing (get_or b taken 0 + 1) (placed + 1)

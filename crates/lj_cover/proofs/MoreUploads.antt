@@ -6,16 +6,15 @@ use Rattle.std.specs.List.{AllByRecursion, Contains, range_with_len}
 use Rattle.lj_base.specs.Blocks.{Covers}
 use Rattle.lj_base.specs.Cells.{IsCell, Triple}
 use Rattle.lj_base.specs.Frames.{InFrame, Top}
+use Rattle.lj_base.proofs.Ascending.{Ascends-range, Ascends-wider}
 use Rattle.lj_cover.specs.BlockLists.{cut_sizes}
 use Rattle.lj_cover.specs.Derivations.{AreDerivations, Derivable, DerivableIn, EachRules, IsDerivation, IsFrom, IsIn, IsLeast, Tree, Trees, expand, more, node, none, root_cell, root_cells, tree_cost, tree_costs}
 use Rattle.lj_cover.specs.Instances.{AreUploads, IsInstance, price}
 use Rattle.lj_cover.specs.Rules.{Rule, Upload, Induced, ForUpload, IsCovering, rule_cell, rule_children, rule_cost, triple}
 use Rattle.lj_cover.specs.Uses.{DerivableBy, EachUpload-weaker, ForUpload-weaker}
-use Rattle.lj_cover.proofs.Bases.{Ascends-range}
-use Rattle.lj_cover.proofs.Expanding.{expand_counts, expand_covers}
-use Rattle.lj_cover.proofs.Leasts.{root_in_limits}
-use Rattle.lj_cover.proofs.Points.{Ascends-wider}
-use Rattle.lj_cover.proofs.Reading.{sizes_inside}
+use Rattle.lj_cover.proofs.RulesCover.{expand_counts, expand_covers}
+use Rattle.lj_cover.proofs.LeastCosts.{root_in_limits}
+use Rattle.lj_cover.proofs.CellsRead.{sizes_inside}
 
 -- each upload of the first list is in the second
 abbrev AreAmong : List Upload → List Upload → Type 0

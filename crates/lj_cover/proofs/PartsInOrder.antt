@@ -1,8 +1,8 @@
 -- The parts of a chain follow each other from its first number to its last.
 use Rattle.std.proofs.Common.{◌≡◌, ℕ, ◌+◌, ◌≤◌, List, [], ◌∷◌, ◌++◌, length, subst, arith}
 use Rattle.std.specs.List.{AllByRecursion}
+use Rattle.lj_base.proofs.Lists.{AllByRecursion-weaker}
 use Rattle.lj_cover.specs.Rules.{Part, Chain}
-use Rattle.lj_cover.proofs.Points.{AllByRecursion-weaker}
 
 pub Chain-le : (lo hi : ℕ) (parts : List Part) → Chain lo hi parts → lo ≤ hi + 1
 Chain-le lo hi [] h = omega arith

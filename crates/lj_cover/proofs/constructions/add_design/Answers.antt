@@ -1,8 +1,8 @@
 use Rattle.std.proofs.Common.{◌∙◌, ap, sym, take}
 use Rattle.lj_base.specs.Cells.{Triple}
-use Rattle.lj_base.proofs.Lists.{AllBelow-from_Ascends}
+use Rattle.lj_base.proofs.Ascending.{AllBelow-from_Ascends}
 use Rattle.lj_cover.specs.BlockLists.{add_blocks}
-use Rattle.lj_cover.proofs.Blocks.{added_covers, all_made, block_read, covering}
+use Rattle.lj_cover.proofs.BlocksOfDesigns.{added_covers, all_made, block_read, covering}
 use Rattle.lj_cover.proofs.constructions.add_design.Goals as goal
 
 pub add_point-requires-clause-greatest : goal.add_point-requires-clause-greatest

@@ -1,7 +1,6 @@
 use Rattle.std.proofs.Common.{◌-◌, arith, refl}
-use Rattle.lj_base.proofs.Lists.{AllBelow-from_Ascends}
-use Rattle.lj_cover.proofs.Appending.{AllBelow-wider}
-use Rattle.lj_cover.proofs.Blocks.{block_read, covering}
+use Rattle.lj_base.proofs.Ascending.{AllBelow-from_Ascends, AllBelow-wider}
+use Rattle.lj_cover.proofs.BlocksOfDesigns.{block_read, covering}
 use Rattle.lj_cover.proofs.constructions.append_unions.Goals as goal
 
 pub unite-requires-clause-second : goal.unite-requires-clause-second

@@ -2,7 +2,7 @@ use Rattle.std.proofs.Common.{◌∙◌, ap, arith, sym}
 use Rattle.std.proofs.lemmas.Bool.{false_from_ne_true, iff_false}
 use Rattle.std.proofs.lemmas.List.Sums.{count_by_more_no, count_by_more_yes}
 use Rattle.lj_cover.specs.Operations.{has_point}
-use Rattle.lj_cover.proofs.Cutting.{Has-from_test, test-from_Has}
+use Rattle.lj_cover.proofs.CutsOfBlocks.{Has-from_test, test-from_Has}
 use Rattle.lj_cover.proofs.constructions.degree.Goals as goal
 use Rattle.lj_cover.proofs.constructions.degree.Goals.{then-has, else-has}
 

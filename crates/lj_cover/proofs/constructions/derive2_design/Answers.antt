@@ -3,9 +3,9 @@ use Rattle.std.proofs.lemmas.Bool.{and_from, and_parts, false_from_ne_true, iff_
 use Rattle.lj_base.specs.Cells.{Triple}
 use Rattle.lj_cover.specs.BlockLists.{derived2_blocks}
 use Rattle.lj_cover.specs.Operations.{has_point, without}
-use Rattle.lj_cover.proofs.Blocks.{all_made, covering, kept_no, kept_yes}
-use Rattle.lj_cover.proofs.Cutting.{Has-from_test, test-from_Has}
-use Rattle.lj_cover.proofs.Removing.{derived2_covers}
+use Rattle.lj_cover.proofs.BlocksOfDesigns.{all_made, covering, kept_no, kept_yes}
+use Rattle.lj_cover.proofs.CutsOfBlocks.{Has-from_test, test-from_Has}
+use Rattle.lj_cover.proofs.DerivedRules.{derived2_covers}
 use Rattle.lj_cover.proofs.constructions.derive2_design.Goals as goal
 use Rattle.lj_cover.proofs.constructions.derive2_design.Goals.{then-has_both, else-has_both}
 

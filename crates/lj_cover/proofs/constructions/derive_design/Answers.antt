@@ -3,9 +3,9 @@ use Rattle.std.proofs.lemmas.Bool.{false_from_ne_true, iff_false}
 use Rattle.std.proofs.Common.{◌∙◌, ◌++◌, [], ◌∷◌, ap, arith, sym}
 use Rattle.lj_base.specs.Cells.{Triple}
 use Rattle.lj_cover.specs.BlockLists.{derived_blocks}
-use Rattle.lj_cover.proofs.Blocks.{all_made, covering, kept_no, kept_yes}
-use Rattle.lj_cover.proofs.Cutting.{Has-from_test, test-from_Has}
-use Rattle.lj_cover.proofs.Removing.{derived_covers}
+use Rattle.lj_cover.proofs.BlocksOfDesigns.{all_made, covering, kept_no, kept_yes}
+use Rattle.lj_cover.proofs.CutsOfBlocks.{Has-from_test, test-from_Has}
+use Rattle.lj_cover.proofs.DerivedRules.{derived_covers}
 use Rattle.lj_cover.proofs.constructions.derive_design.Goals as goal
 use Rattle.lj_cover.proofs.constructions.derive_design.Goals.{then-has, else-has}
 

@@ -1,9 +1,8 @@
 use Rattle.std.proofs.Common.{◌∙◌, ◌+◌, ap, arith}
 use Rattle.lj_base.specs.Cells.{Triple}
-use Rattle.lj_base.proofs.Lists.{AllBelow-from_Ascends}
+use Rattle.lj_base.proofs.Ascending.{AllBelow-from_Ascends, AllBelow-wider}
 use Rattle.lj_cover.specs.BlockLists.{grow_blocks}
-use Rattle.lj_cover.proofs.Appending.{AllBelow-wider}
-use Rattle.lj_cover.proofs.Blocks.{all_made, block_read, covering, grown_covers}
+use Rattle.lj_cover.proofs.BlocksOfDesigns.{all_made, block_read, covering, grown_covers}
 use Rattle.lj_cover.proofs.constructions.grow_design.Goals as goal
 
 pub fill-requires-clause-below : goal.fill-requires-clause-below

@@ -1,6 +1,6 @@
 use Rattle.std.proofs.Common.{◌∙◌, ap, arith}
 use Rattle.lj_base.specs.Cells.{Triple}
-use Rattle.lj_cover.proofs.Blocks.{covering, lowered_covers}
+use Rattle.lj_cover.proofs.BlocksOfDesigns.{covering, lowered_covers}
 use Rattle.lj_cover.proofs.constructions.lower_design.Goals as goal
 
 pub of-requires : goal.of-requires

@@ -1,7 +1,7 @@
 use Rattle.std.proofs.Common.{arith, ap, length, subst, sym}
 use Rattle.lj_base.specs.Blocks.{AllBelow}
-use Rattle.lj_base.proofs.Lists.{AllBelow-from_Ascends}
-use Rattle.lj_cover.proofs.Cutting.{Ascends-cut, length-cut}
+use Rattle.lj_base.proofs.Ascending.{AllBelow-from_Ascends}
+use Rattle.lj_cover.proofs.CutsOfBlocks.{Ascends-cut, length-cut}
 use Rattle.lj_cover.proofs.operations.drop_last.Goals as goal
 
 pub fill-requires-clause-below : goal.fill-requires-clause-below

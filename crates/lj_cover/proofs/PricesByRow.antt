@@ -5,12 +5,13 @@ use Rattle.std.proofs.lemmas.List.Sums.{sum_by-cons}
 use Rattle.std.specs.List.{AllByRecursion, count_by, range_with_len, sum_by}
 use Rattle.lj_base.specs.Cells.{Triple}
 use Rattle.lj_base.specs.Blocks.{AreBlocks, Has, IsBlock}
+use Rattle.lj_base.proofs.Lists.{AllByRecursion-weaker, map-map, sum_by-each}
 use Rattle.lj_cover.specs.Operations.{cut}
 use Rattle.lj_cover.specs.BlockLists.{at_size, cut_sizes}
 use Rattle.lj_cover.specs.Rules.{Upload, Induced, cut_cost, triple}
 use Rattle.lj_cover.specs.Instances.{price, cut_counts, row_price, row_price_from}
-use Rattle.lj_cover.proofs.Cutting.{length-cut}
-use Rattle.lj_cover.proofs.Inducing.{AllByRecursion-weaker, HasSize, cut_sizes_have}
+use Rattle.lj_cover.proofs.CutsOfBlocks.{length-cut}
+use Rattle.lj_cover.proofs.InducedRule.{HasSize, cut_sizes_have}
 
 -- what one cut of l points costs, by the number of its cell
 abbrev unit_price : (Triple → ℕ) → ℕ → ℕ → ℕ → ℕ
@@ -32,14 +33,6 @@ cut_cost-same t k m n l e = three (ltb l t) (leb l k) refl
     three true b q = refl
     three false true q = refl
     three false false q = e (leb-false l k q)
-
-pub map-map : {X Y Z : Type 0} (f : Y → Z) (g : X → Y) (xs : List X) → map f (map g xs) ≡ map (λ x. f (g x)) xs
-map-map f g [] = refl
-map-map f g (x ∷ xs) = ap (λ r. f (g x) ∷ r) (map-map f g xs)
-
-sum_by-each : {X : Type 0} (f g : X → ℕ) (xs : List X) → AllByRecursion (λ x. f x ≡ g x) xs → sum_by f xs ≡ sum_by g xs
-sum_by-each f g [] h = refl
-sum_by-each f g (x ∷ xs) h = sum_by-cons f x xs ∙ ap₂ (λ m n. m + n) h.0 (sum_by-each f g xs h.1) ∙ sym (sum_by-cons g x xs)
 
 -- the counts for n sizes from lo on
 abbrev counts_from : ℕ → ℕ → ℕ → List (List ℕ) → List ℕ

@@ -8,7 +8,7 @@ use Rattle.lj_base.specs.Cells.{Triple}
 use Rattle.lj_base.specs.Blocks.{AreBlocks, Covers, IsBlock}
 use Rattle.lj_cover.specs.BlockLists.{add_blocks, drop_blocks, grow_blocks}
 use Rattle.lj_cover.specs.Rules.{triple}
-use Rattle.lj_cover.proofs.Elementary.{add_covers, drop_covers, grow_covers, lower_covers}
+use Rattle.lj_cover.proofs.ElementaryRules.{add_covers, drop_covers, grow_covers, lower_covers}
 
 -- a design's list, as its parts tell it
 pub covering : (v k t : ℕ) (c : Triple) (items bs : List (List ℕ)) → triple v k t ≡ c → items ≡ bs → Covers bs c → Covers items (triple v k t)

@@ -6,14 +6,14 @@ use Rattle.std.proofs.lemmas.List.Sums.{length-filter, sum_by-cons}
 use Rattle.std.proofs.Math.Nat.{div-lt_iff_lt-mul}
 use Rattle.std.specs.List.{count_by, filter}
 use Rattle.lj_base.specs.Blocks.{Ascends, SomeContains, AreBlocks, Covers}
+use Rattle.lj_base.proofs.Ascending.{Has-below}
 use Rattle.lj_cover.specs.Operations.{has_point, without}
 use Rattle.lj_cover.specs.BlockLists.{ceil_div, derived_blocks}
 use Rattle.lj_cover.specs.Lower.{schonheim}
 use Rattle.lj_cover.specs.Rules.{triple}
-use Rattle.lj_cover.proofs.Points.{below-Has}
-use Rattle.lj_cover.proofs.Cutting.{Has-from_test}
-use Rattle.lj_cover.proofs.Splitting.{last_or_below}
-use Rattle.lj_cover.proofs.Removing.{derived_covers}
+use Rattle.lj_cover.proofs.CutsOfBlocks.{Has-from_test}
+use Rattle.lj_cover.proofs.SidesOfSets.{last_or_below}
+use Rattle.lj_cover.proofs.DerivedRules.{derived_covers}
 
 -- the sum of f over the points below v
 abbrev sum_below : ℕ → (ℕ → ℕ) → ℕ
@@ -65,7 +65,7 @@ points_of (suc v) b h =
     subst (λ c. sum_below (suc v) (λ x. cond (has_point c x) 1 0) ≡ length c) (sym e.is) all)
     (λ below.
     let rest = points_of v b below in
-    let last : cond {A = ℕ} (has_point b v) 1 0 ≡ 0 = cond-false _ 1 0 (false_from_ne_true _ (λ e. let under = below-Has 0 v b v below (Has-from_test b v e) in omega arith)) in
+    let last : cond {A = ℕ} (has_point b v) 1 0 ≡ 0 = cond-false _ 1 0 (false_from_ne_true _ (λ e. let under = Has-below 0 v v b below (Has-from_test b v e) in omega arith)) in
     omega arith)
     (last_or_below 0 v b h)
 

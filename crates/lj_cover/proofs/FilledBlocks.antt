@@ -3,8 +3,8 @@ use Rattle.std.proofs.Common.{◌≡◌, ℕ, zero, suc, ◌+◌, ◌-◌, ◌<�
 use Rattle.std.proofs.lemmas.Bool.{cond_both, eqb-true, eqb-false}
 use Rattle.lj_base.specs.Cells.{Triple}
 use Rattle.lj_base.specs.Blocks.{Ascends, IsBlock, Has, SomeContains, Covers}
+use Rattle.lj_base.proofs.Ascending.{SomeContains-smaller}
 use Rattle.lj_cover.specs.Operations.{add_least, add_missing, fill}
-use Rattle.lj_cover.proofs.Points.{SomeContains-smaller}
 
 Has-add_least : (lo : ℕ) (b : List ℕ) (p : ℕ) → Has b p → Has (add_least lo b) p
 Has-add_least lo [] p has = absurd has

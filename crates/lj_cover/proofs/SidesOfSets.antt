@@ -2,7 +2,7 @@
 use Rattle.std.proofs.Common.{◌≡◌, ℕ, suc, ◌+◌, ◌-◌, ◌<◌, ◌≤◌, ◌⊎◌, List, [], ◌∷◌, ◌++◌, map, refl, ap, ◌∙◌, subst, arith, inl, inr, ⊎_elim}
 use Rattle.std.proofs.lemmas.Bool.{cases_lt}
 use Rattle.lj_base.specs.Blocks.{Ascends}
-use Rattle.lj_cover.proofs.Points.{Ascends-wider}
+use Rattle.lj_base.proofs.Ascending.{Ascends-wider}
 
 -- an ascending list from m on is another one shifted up by m
 pub record Shifted (m lo v : ℕ) (s : List ℕ) : Type 0 where

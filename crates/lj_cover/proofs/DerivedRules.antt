@@ -3,11 +3,11 @@ use Rattle.std.proofs.Common.{◌≡◌, ℕ, suc, ◌-◌, ◌<◌, ◌≤◌, 
 use Rattle.std.proofs.lemmas.Bool.{cond_both, cond-true, cond-false, cases_order, eq-eqb, ne_eqb, lt-ltb, le-ltb, not_from_true, not_from_false}
 use Rattle.std.specs.List.{filter}
 use Rattle.lj_base.specs.Blocks.{Ascends, Has, Within, SomeContains, AreBlocks, Covers}
+use Rattle.lj_base.proofs.Ascending.{Ascends-wider, Has-below, Has-from, Has-from_Within}
 use Rattle.lj_cover.specs.Operations.{has_point, without}
 use Rattle.lj_cover.specs.BlockLists.{derived_blocks, derived2_blocks}
 use Rattle.lj_cover.specs.Rules.{triple}
-use Rattle.lj_cover.proofs.Points.{Ascends-wider, Has-Within, below-Has, from-Has}
-use Rattle.lj_cover.proofs.Cutting.{Has-from_test, test-from_Has}
+use Rattle.lj_cover.proofs.CutsOfBlocks.{Has-from_test, test-from_Has}
 
 -- `without` at the head of a list: the point itself goes, a greater one falls by 1, a lesser one stays
 pub without_same : (x y : ℕ) (ys : List ℕ) → y ≡ x → without x (y ∷ ys) ≡ without x ys
@@ -58,10 +58,10 @@ without_point x lo v (y ∷ ys) h (inl e) =
       shorter = ap suc (ap length is ∙ rest.same_length);
     }
 without_point x lo v (y ∷ ys) h (inr rest) =
-    let under : y < x = from-Has (suc y) v ys x h.2 rest in
+    let under : y < x = Has-from (suc y) v x ys h.2 rest in
     let is = without_lesser x y ys under in
     let later = without_point x (suc y) v ys h.2 rest in
-    let room = below-Has (suc y) v ys x h.2 rest in
+    let room = Has-below (suc y) v x ys h.2 rest in
     record {
       ascends = subst (Ascends lo (v - 1)) (sym is) (h.0, omega arith, later.ascends);
       shorter = ap suc (ap length is ∙ later.shorter);
@@ -140,7 +140,7 @@ derived_are_blocks v k x (b ∷ bs) h =
 derived_contains : (x : ℕ) (bs : List (List ℕ)) (s t : List ℕ) → Has t x → ((b : List ℕ) → Within t b → Within s (without x b)) → SomeContains bs t → SomeContains (derived_blocks x bs) s
 derived_contains x [] s t has lowers h = absurd h
 derived_contains x (b ∷ bs) s t has lowers (inl here) =
-    let kept = cond-true (has_point b x) (b ∷ filter (λ c. has_point c x) bs) (filter (λ c. has_point c x) bs) (test-from_Has b x (Has-Within t b x here has)) in
+    let kept = cond-true (has_point b x) (b ∷ filter (λ c. has_point c x) bs) (filter (λ c. has_point c x) bs) (test-from_Has b x (Has-from_Within t b here x has)) in
     subst (λ cs. SomeContains (map (without x) cs) s) (sym kept) (inl (lowers b here))
 derived_contains x (b ∷ bs) s t has lowers (inr rest) =
     let later = derived_contains x bs s t has lowers rest in

@@ -6,14 +6,13 @@ use Rattle.std.proofs.lemmas.List.Sums.{sum_by-cons, sum_by-le-sum_by}
 use Rattle.std.specs.List.{AllByRecursion, AllZip, filter, flat_map, list_any, range_with_len, sum_by}
 use Rattle.lj_base.specs.Cells.{Triple}
 use Rattle.lj_base.specs.Blocks.{Has}
+use Rattle.lj_base.proofs.Ascending.{Ascends-range, Has-from}
+use Rattle.lj_base.proofs.Lists.{AllByRecursion-map, AllByRecursion-weaker, map-map}
 use Rattle.lj_cover.specs.Operations.{cut}
 use Rattle.lj_cover.specs.BlockLists.{at_size, cut_sizes}
 use Rattle.lj_cover.specs.Rules.{Rule, Part, One, Runs, All, Leaf, Derived, Derived2, Drop, Add, Grow, Lower, Product, Induced, Condition, rule_children, cut_cost, part_cells, rule_cost, sum_of_products, triple}
 use Rattle.lj_cover.specs.Instances.{price}
-use Rattle.lj_cover.proofs.Bases.{Ascends-range}
-use Rattle.lj_cover.proofs.Inducing.{AllByRecursion-weaker}
-use Rattle.lj_cover.proofs.Points.{AllByRecursion-map, from-Has}
-use Rattle.lj_cover.proofs.Pricing.{at_size-bounds, map-map}
+use Rattle.lj_cover.proofs.PricesByRow.{at_size-bounds}
 
 AllByRecursion-from_Has : (P : ℕ → Type 0) (xs : List ℕ) → ((x : ℕ) → Has xs x → P x) → AllByRecursion P xs
 AllByRecursion-from_Has P [] each = tt
@@ -53,7 +52,7 @@ size_in_price : (bounds : Triple → ℕ) (t k w l : ℕ) (bs : List (List ℕ))
 size_in_price bounds t k w l bs small has =
     let sizes = cut_sizes k w bs in
     let member = passes_filter (λ s. list_any (λ b. eqb (length (cut w b)) s) bs) (range_with_len (suc k) (w - k)) l has in
-    let above = from-Has (suc k) (suc k + (w - k)) (range_with_len (suc k) (w - k)) l (Ascends-range (suc k) (w - k)) member.member in
+    let above = Has-from (suc k) (suc k + (w - k)) l (range_with_len (suc k) (w - k)) (Ascends-range (suc k) (w - k)) member.member in
     let child : at_size sizes (map bounds (map (λ s. triple s k t) sizes)) 0 l ≡ bounds (triple l k t) =
     ap (λ ns. at_size sizes ns 0 l) (map-map bounds (λ s. triple s k t) sizes) ∙ at_size-bounds (λ s. bounds (triple s k t)) sizes l has in
     let g = λ (m : ℕ). cut_cost t k (at_size sizes (map bounds (map (λ s. triple s k t) sizes)) 0 m) m in

@@ -8,17 +8,17 @@ use Rattle.lj_base.specs.Cells.{IsCell, Triple}
 use Rattle.lj_base.specs.Blocks.{AreBlocks, Covers, Has, IsBlock, SomeContains}
 use Rattle.lj_base.specs.Colex.{sets}
 use Rattle.lj_base.specs.Frames.{InFrame, Top}
+use Rattle.lj_base.proofs.Ascending.{Ascends-range, Ascends-wider, Has-range, SomeContains-smaller}
 use Rattle.lj_cover.specs.Operations.{cut, fill}
 use Rattle.lj_cover.specs.BlockLists.{cut_sizes}
 use Rattle.lj_cover.specs.Rules.{Rule, Upload, Part, One, Runs, All, Leaf, Derived, Derived2, Drop, Add, Grow, Lower, Product, Induced, Chain, PartFits, IsCovering, rule_cell, rule_children, part_cells, triple}
 use Rattle.lj_cover.specs.Instances.{AreUploads, IsInstance, ReadSomewhere, Reads, by_add, by_drop, by_grow, by_induced, by_lower, by_product}
 use Rattle.lj_cover.proofs.PartsInOrder.{Chain-le}
-use Rattle.lj_cover.proofs.Points.{Ascends-wider, SomeContains-smaller}
-use Rattle.lj_cover.proofs.Filling.{Has-fill, IsBlock-fill}
-use Rattle.lj_cover.proofs.Cutting.{Ascends-cut, Within-cut, length-cut}
-use Rattle.lj_cover.proofs.Placing.{length-Within}
-use Rattle.lj_cover.proofs.Inducing.{Has-filter, Has-range}
-use Rattle.lj_cover.proofs.Bases.{Ascends-range, all_cover}
+use Rattle.lj_cover.proofs.FilledBlocks.{Has-fill, IsBlock-fill}
+use Rattle.lj_cover.proofs.CutsOfBlocks.{Ascends-cut, Within-cut, length-cut}
+use Rattle.lj_cover.proofs.PlacedBlocks.{length-Within}
+use Rattle.lj_cover.proofs.InducedRule.{Has-filter}
+use Rattle.lj_cover.proofs.BasesCover.{all_cover}
 
 part_cells_read : (frame : Top) (c : Triple) (v1 lo hi : ℕ) (parts : List Part) → 1 ≤ v1 → v1 < c.v → hi ≤ c.t → Chain lo hi parts → AllByRecursion (PartFits c v1) parts
     → AllByRecursion (Reads frame c) (flat_map (part_cells c v1) parts)

@@ -5,17 +5,17 @@ use Rattle.std.proofs.lemmas.List.Sums.{length-filter, sum_by-cons}
 use Rattle.std.specs.List.{AllZip, filter, flat_map, sum_by}
 use Rattle.lj_base.specs.Cells.{Triple}
 use Rattle.lj_base.specs.Blocks.{Covers}
-use Rattle.lj_base.proofs.Lists.{length-sets}
+use Rattle.lj_base.proofs.Ascending.{length-sets}
 use Rattle.lj_cover.specs.Operations.{add_point, cut, drop_last, fill, has_point, place, unite, without}
 use Rattle.lj_cover.specs.BlockLists.{at_size, cut_blocks, cut_sizes, join_blocks, product_blocks, run_blocks}
 use Rattle.lj_cover.specs.Rules.{Rule, One, Runs, All, Leaf, Derived, Derived2, Drop, Add, Grow, Lower, Product, Induced, rule_cell, rule_children, cut_cost, first_list, rule_blocks, rule_cost, sum_of_products, triple}
 use Rattle.lj_cover.specs.Derivations.{Tree, Trees, node, none, more, root_cell, root_cells, IsSound, IsDerivation, AreDerivations, tree_cost, tree_costs, expand, expands}
-use Rattle.lj_cover.proofs.Elementary.{add_covers, drop_covers, grow_covers, lower_covers}
-use Rattle.lj_cover.proofs.Joining.{product_covers}
-use Rattle.lj_cover.proofs.Removing.{derived_covers, derived2_covers}
-use Rattle.lj_cover.proofs.Inducing.{induced_covers}
-use Rattle.lj_cover.proofs.Bases.{all_cover, length-run_blocks, one_covers, runs_cover}
-use Rattle.lj_cover.proofs.Degrees.{length-derived_blocks}
+use Rattle.lj_cover.proofs.ElementaryRules.{add_covers, drop_covers, grow_covers, lower_covers}
+use Rattle.lj_cover.proofs.ProductRule.{product_covers}
+use Rattle.lj_cover.proofs.DerivedRules.{derived_covers, derived2_covers}
+use Rattle.lj_cover.proofs.InducedRule.{induced_covers}
+use Rattle.lj_cover.proofs.BasesCover.{all_cover, length-run_blocks, one_covers, runs_cover}
+use Rattle.lj_cover.proofs.LowerNumber.{length-derived_blocks}
 
 -- the one child's list covers the one child's cell
 only_child : (c : Triple) (lists : List (List (List ℕ))) → AllZip Covers lists (c ∷ []) → Covers (first_list lists) c

@@ -1,23 +1,16 @@
 -- The induced rule covers where the children for its cut sizes do.
-use Rattle.std.proofs.Common.{◌≡◌, ℕ, zero, suc, ◌+◌, ◌-◌, ◌<◌, ◌≤◌, Bool, true, false, eqb, ltb, leb, List, [], ◌∷◌, length, map, slice_index, refl, sym, ap, ◌∙◌, subst, arith, inl, inr, ⊎_elim}
-use Rattle.std.proofs.lemmas.Bool.{cond_both, cond-true, cond-false, cases_eq, eqb-true, eq-eqb, le-ltb, leb-true, leb-false, or_left, or_right}
+use Rattle.std.proofs.Common.{◌≡◌, ℕ, suc, ◌-◌, ◌<◌, ◌≤◌, Bool, true, false, eqb, ltb, leb, List, [], ◌∷◌, length, map, slice_index, refl, sym, ap, ◌∙◌, subst, arith, inl, inr, ⊎_elim}
+use Rattle.std.proofs.lemmas.Bool.{cond_both, cond-true, cond-false, eqb-true, eq-eqb, le-ltb, leb-true, leb-false, or_left, or_right}
 use Rattle.std.specs.List.{AllByRecursion, AllZip, filter, flat_map, list_any, range_with_len}
 use Rattle.lj_base.specs.Blocks.{Ascends, IsBlock, Has, Within, SomeContains, AreBlocks, Covers}
+use Rattle.lj_base.proofs.Ascending.{Ascends-wider, Has-range, SomeContains-append_left, SomeContains-append_right, SomeContains-map, Within-larger, Within-map, length-ascending}
+use Rattle.lj_base.proofs.Lists.{AllByRecursion-append, AllByRecursion-both, AllByRecursion-map, AllByRecursion-weaker}
 use Rattle.lj_cover.specs.Operations.{cut, fill, place}
 use Rattle.lj_cover.specs.BlockLists.{at_size, cut_blocks, cut_sizes, induced_blocks}
 use Rattle.lj_cover.specs.Rules.{triple}
-pub use Rattle.lj_cover.proofs.Points.{AllByRecursion-weaker}
-use Rattle.lj_cover.proofs.Points.{AllByRecursion-append, AllByRecursion-map, Ascends-wider, SomeContains-append_left, SomeContains-append_right, Within-larger, length-ascending}
-use Rattle.lj_cover.proofs.Filling.{Has-fill, IsBlock-fill}
-use Rattle.lj_cover.proofs.Cutting.{Ascends-cut, Within-cut}
-use Rattle.lj_cover.proofs.Elementary.{SomeContains-map}
-use Rattle.lj_cover.proofs.Joining.{Within-map}
-use Rattle.lj_cover.proofs.Placing.{IsBlock-place, length-Within, length-places, places_of}
-
-pub Has-range : (lo n p : ℕ) → lo ≤ p → p < lo + n → Has (range_with_len lo n) p
-Has-range lo zero p from to = absurd (omega arith)
-Has-range lo (suc n) p from to =
-    ⊎_elim (λ e. inl e) (λ other. inr (Has-range (lo + 1) n p (omega arith) (omega arith))) (cases_eq lo p)
+use Rattle.lj_cover.proofs.FilledBlocks.{Has-fill, IsBlock-fill}
+use Rattle.lj_cover.proofs.CutsOfBlocks.{Ascends-cut, Within-cut}
+use Rattle.lj_cover.proofs.PlacedBlocks.{IsBlock-place, length-Within, length-places, places_of}
 
 pub Has-filter : (f : ℕ → Bool) (xs : List ℕ) (p : ℕ) → f p ≡ true → Has xs p → Has (filter f xs) p
 Has-filter f [] p passes has = absurd has
@@ -27,10 +20,6 @@ Has-filter f (x ∷ xs) p passes (inl e) =
 Has-filter f (x ∷ xs) p passes (inr rest) =
     let later = Has-filter f xs p passes rest in
     cond_both (f x) _ _ (λ c. Has c p) (λ _. inr later) (λ _. later)
-
-pub AllByRecursion-both : {X : Type 0} (P Q : X → Type 0) (xs : List X) → AllByRecursion P xs → AllByRecursion Q xs → AllByRecursion (λ x. P x × Q x) xs
-AllByRecursion-both P Q [] h k = tt
-AllByRecursion-both P Q (x ∷ xs) h k = ((h.0, k.0), AllByRecursion-both P Q xs h.1 k.1)
 
 -- a test that an element passes is passed by some element
 pub any_member : {X : Type 0} (xs : List X) → AllByRecursion (λ x. (f : X → Bool) → f x ≡ true → list_any f xs ≡ true) xs
@@ -45,18 +34,23 @@ any_member {X} (x ∷ xs) = (
 abbrev pub HasSize : ℕ → ℕ → List ℕ → List ℕ → Type 0
 HasSize k w sizes b = Ascends 0 w (cut w b) × (k < length (cut w b) → Has sizes (length (cut w b)))
 
-pub cut_sizes_have : (v m k w : ℕ) (bs : List (List ℕ)) → AreBlocks v m bs → AllByRecursion (HasSize k w (cut_sizes k w bs)) bs
+-- each test that the block passes is passed by a block of the list
+abbrev IsTested : List (List ℕ) → List ℕ → Type 0
+IsTested bs b = (f : List ℕ → Bool) → f b ≡ true → list_any f bs ≡ true
+
+pub cut_sizes_have : (v m k w : ℕ) (bs : List (List ℕ)) → AreBlocks v m bs
+    → AllByRecursion (HasSize k w (cut_sizes k w bs)) bs
 cut_sizes_have v m k w bs h =
-    AllByRecursion-weaker (λ b. IsBlock v m b × ((f : List ℕ → Bool) → f b ≡ true → list_any f bs ≡ true)) (HasSize k w (cut_sizes k w bs)) bs each
-    (AllByRecursion-both (IsBlock v m) (λ b. (f : List ℕ → Bool) → f b ≡ true → list_any f bs ≡ true) bs h (any_member bs))
+    AllByRecursion-both (IsBlock v m) (IsTested bs) (HasSize k w (cut_sizes k w bs)) bs each h (any_member bs)
   where
-    each : (b : List ℕ) → IsBlock v m b × ((f : List ℕ → Bool) → f b ≡ true → list_any f bs ≡ true) → HasSize k w (cut_sizes k w bs) b
-    each b facts =
-        let ascends = Ascends-cut w 0 v b facts.0.0 in
+    each : (b : List ℕ) → IsBlock v m b → IsTested bs b → HasSize k w (cut_sizes k w bs) b
+    each b block tested =
+        let ascends = Ascends-cut w 0 v b block.0 in
         let room = length-ascending 0 w (cut w b) (omega arith) ascends in (
           ascends,
-          λ more. Has-filter (λ l. list_any (λ c. eqb (length (cut w c)) l) bs) (range_with_len (suc k) (w - k)) (length (cut w b))
-              (facts.1 (λ c. eqb (length (cut w c)) (length (cut w b))) (eq-eqb (length (cut w b)) (length (cut w b)) refl))
+          λ more. Has-filter (λ l. list_any (λ c. eqb (length (cut w c)) l) bs) (range_with_len (suc k) (w - k))
+              (length (cut w b))
+              (tested (λ c. eqb (length (cut w c)) (length (cut w b))) (eq-eqb (length (cut w b)) (length (cut w b)) refl))
               (Has-range (suc k) (w - k) (length (cut w b)) more (omega arith)),
         )
 

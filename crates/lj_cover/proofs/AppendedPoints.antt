@@ -1,29 +1,14 @@
 -- Points that are appended one by one: each is above those before it.
-use Rattle.std.proofs.Common.{◌≡◌, ℕ, zero, suc, ◌+◌, ◌-◌, ◌<◌, ◌≤◌, not, cond, eqb, ltb, List, [], ◌∷◌, ◌++◌, length, map, take, get_or, refl, sym, ap, ◌∙◌, subst, arith, ⊎_elim}
+use Rattle.std.proofs.Common.{◌≡◌, ℕ, zero, suc, ◌+◌, ◌-◌, ◌<◌, ◌≤◌, not, cond, eqb, ltb, List, [], ◌∷◌, ◌++◌, length, map, get_or, refl, sym, ap, ◌∙◌, subst, arith, ⊎_elim}
 use Rattle.std.proofs.lemmas.Bool.{cond_both, cond-true, cond-false, cases_order, eq-eqb, ne_eqb}
 use Rattle.std.proofs.lemmas.List.{length-map}
 use Rattle.std.proofs.lemmas.List.Sums.{count_by-le-length, length-filter}
-use Rattle.std.specs.List.{AllByRecursion, filter}
+use Rattle.std.specs.List.{filter}
 use Rattle.lj_base.specs.Blocks.{AllBelow, Ascends}
+use Rattle.lj_base.proofs.Ascending.{AllBelow-wider, Ascends-get_or_lt}
+use Rattle.lj_base.proofs.Lists.{AllByRecursion-append, AllByRecursion-map}
 use Rattle.lj_cover.specs.Operations.{add_least, add_missing, cut, place, without}
-use Rattle.lj_cover.proofs.Inducing.{AllByRecursion-weaker}
-use Rattle.lj_cover.proofs.Placing.{get_or-ascends}
-use Rattle.lj_cover.proofs.Points.{AllByRecursion-append, AllByRecursion-map}
-use Rattle.lj_cover.proofs.Removing.{without_greater, without_lesser, without_same}
-
-pub AllBelow-wider : (p q : ℕ) (xs : List ℕ) → p ≤ q → AllBelow p xs → AllBelow q xs
-AllBelow-wider p q xs over h = AllByRecursion-weaker (λ x. x < p) (λ x. x < q) xs (λ x below. omega arith) h
-
-pub AllByRecursion-at : (P : ℕ → Type 0) (xs : List ℕ) (i : ℕ) → i < length xs → AllByRecursion P xs → P (get_or xs i 0)
-AllByRecursion-at P [] i inside h = absurd (omega arith)
-AllByRecursion-at P (x ∷ xs) zero inside h = h.0
-AllByRecursion-at P (x ∷ xs) (suc i) inside h = AllByRecursion-at P xs i (omega arith) h.1
-
--- the points before the i-th are below it
-pub AllBelow-take : (lo v : ℕ) (b : List ℕ) (i : ℕ) → i < length b → Ascends lo v b → AllBelow (get_or b i 0) (take i b)
-AllBelow-take lo v [] i inside h = absurd (omega arith)
-AllBelow-take lo v (x ∷ xs) zero inside h = tt
-AllBelow-take lo v (x ∷ xs) (suc i) inside h = (get_or-ascends lo v (x ∷ xs) 0 (suc i) (omega arith) inside h, AllBelow-take (suc x) v xs i (omega arith) h.2)
+use Rattle.lj_cover.proofs.DerivedRules.{without_greater, without_lesser, without_same}
 
 pub AllBelow-cut : (p w : ℕ) (b : List ℕ) → AllBelow p b → AllBelow p (cut w b)
 AllBelow-cut p w [] h = tt
@@ -33,7 +18,7 @@ AllBelow-cut p w (x ∷ xs) h =
 
 pub AllBelow-place : (lo v : ℕ) (q b : List ℕ) (p : ℕ) → p < length q → Ascends lo v q → AllBelow p b → AllBelow (get_or q p 0) (place q b)
 AllBelow-place lo v q b p inside h below =
-    AllByRecursion-map (λ i. i < p) (λ x. x < get_or q p 0) (λ i. get_or q i 0) b (λ i less. get_or-ascends lo v q i p less inside h) below
+    AllByRecursion-map (λ i. i < p) (λ x. x < get_or q p 0) (λ i. get_or q i 0) b (λ i less. Ascends-get_or_lt lo v q i p h less inside) below
 
 pub AllBelow-unite : (v1 p : ℕ) (a b : List ℕ) → AllBelow v1 a → AllBelow p b → AllBelow (v1 + p) (a ++ map (λ x. v1 + x) b)
 AllBelow-unite v1 p a b h k =

@@ -1,34 +1,18 @@
 -- The product covers where the children of its parts do.
-use Rattle.std.proofs.Common.{◌≡◌, ℕ, suc, ◌+◌, ◌-◌, ◌<◌, ◌≤◌, min, List, [], ◌∷◌, length, map, sym, ap, subst, arith, inl, inr, ⊎_elim, length-append}
+use Rattle.std.proofs.Common.{◌≡◌, ℕ, ◌+◌, ◌-◌, ◌<◌, ◌≤◌, min, List, [], ◌∷◌, length, map, sym, ap, subst, arith, inl, inr, ⊎_elim, length-append}
 use Rattle.std.proofs.lemmas.Bool.{cases_lt}
 use Rattle.std.proofs.lemmas.List.{length-map}
 use Rattle.std.specs.List.{AllByRecursion, AllZip, flat_map}
 use Rattle.lj_base.specs.Cells.{Triple}
-use Rattle.lj_base.specs.Blocks.{Ascends, IsBlock, Has, Within, SomeContains, AreBlocks, Covers}
-use Rattle.lj_base.proofs.Lists.{Ascends-append}
+use Rattle.lj_base.specs.Blocks.{Ascends, IsBlock, Within, SomeContains, AreBlocks, Covers}
+use Rattle.lj_base.proofs.Ascending.{Ascends-append, Ascends-shift, Has-append_left, Has-append_right, SomeContains-append_left, SomeContains-append_right, SomeContains-map, Within-append, Within-larger, Within-map, length-ascending}
+use Rattle.lj_base.proofs.Lists.{AllByRecursion-append, AllByRecursion-map}
 use Rattle.lj_cover.specs.Operations.{unite}
 use Rattle.lj_cover.specs.BlockLists.{join_blocks, product_blocks}
 use Rattle.lj_cover.specs.Rules.{Part, Chain, PartFits, Splits, part_cells, triple}
-use Rattle.lj_cover.proofs.Points.{AllByRecursion-append, AllByRecursion-map, Has-append_left, Has-append_right, SomeContains-append_left, SomeContains-append_right, Within-append, Within-larger, length-ascending}
-use Rattle.lj_cover.proofs.Elementary.{SomeContains-map}
-use Rattle.lj_cover.proofs.Filling.{covers_fewer}
+use Rattle.lj_cover.proofs.FilledBlocks.{covers_fewer}
 use Rattle.lj_cover.proofs.PartsInOrder.{Chain-le}
-use Rattle.lj_cover.proofs.Splitting.{sides}
-
-Has-map : (f : ℕ → ℕ) (b : List ℕ) (p : ℕ) → Has b p → Has (map f b) (f p)
-Has-map f [] p has = absurd has
-Has-map f (x ∷ xs) p (inl e) = inl (ap f e)
-Has-map f (x ∷ xs) p (inr rest) = inr (Has-map f xs p rest)
-
-pub Within-map : (f : ℕ → ℕ) (s b : List ℕ) → Within s b → Within (map f s) (map f b)
-Within-map f [] b h = tt
-Within-map f (x ∷ xs) b h = (Has-map f b x h.0, Within-map f xs b h.1)
-
-Ascends-shift : (m lo v : ℕ) (b : List ℕ) → Ascends lo v b → Ascends (m + lo) (m + v) (map (λ p. m + p) b)
-Ascends-shift m lo v [] h = tt
-Ascends-shift m lo v (x ∷ xs) h =
-    let next : m + suc x ≡ suc (m + x) = omega arith in
-    (omega (arith, h.0), omega (arith, h.1), subst (λ y. Ascends y (m + v) (map (λ p. m + p) xs)) next (Ascends-shift m (suc x) v xs h.2))
+use Rattle.lj_cover.proofs.SidesOfSets.{sides}
 
 pub IsBlock-unite : (v1 v2 l m : ℕ) (a b : List ℕ) → IsBlock v1 l a → IsBlock v2 m b → IsBlock (v1 + v2) (l + m) (unite v1 a b)
 IsBlock-unite v1 v2 l m a b h k =

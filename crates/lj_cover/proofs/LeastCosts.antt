@@ -7,8 +7,8 @@ use Rattle.lj_base.specs.Blocks.{Covers}
 use Rattle.lj_cover.specs.Rules.{Rule, Upload, One, Runs, All, Leaf, Derived, Derived2, Drop, Add, Grow, Lower, Product, Induced, ForUpload}
 use Rattle.lj_cover.specs.Derivations.{Tree, Trees, node, none, more, root_cell, Derivable, EachRule, EachRules, IsDerivation, IsFrom, IsLeast, expand}
 use Rattle.lj_cover.specs.Lower.{schonheim}
-use Rattle.lj_cover.proofs.Degrees.{schonheim_bounds}
-use Rattle.lj_cover.proofs.Expanding.{expand_counts, expand_covers}
+use Rattle.lj_cover.proofs.LowerNumber.{schonheim_bounds}
+use Rattle.lj_cover.proofs.RulesCover.{expand_counts, expand_covers}
 
 -- a derivable number is the size of a covering
 pub derivable_covering : (c : Triple) (n : ℕ) → Derivable c n → (bs : List (List ℕ)) × Covers bs c × (length bs ≡ n)

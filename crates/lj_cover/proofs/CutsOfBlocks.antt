@@ -2,8 +2,8 @@
 use Rattle.std.proofs.Common.{◌≡◌, ℕ, suc, ◌<◌, ◌≤◌, ◌↔◌, IsTrue, true, ltb, List, [], ◌∷◌, length, sym, subst, arith, inl, inr, ⊎_elim}
 use Rattle.std.proofs.lemmas.Bool.{and_from, and_parts, cond_both, cond-true, lt-ltb, ltb-true, eqb-true, eq-eqb, or_cases, or_left, or_right, false≢true}
 use Rattle.lj_base.specs.Blocks.{Ascends, Has, Within}
+use Rattle.lj_base.proofs.Ascending.{Ascends-wider, length-ascending}
 use Rattle.lj_cover.specs.Operations.{cut, has_both, has_point}
-use Rattle.lj_cover.proofs.Points.{Ascends-wider, length-ascending}
 
 pub Has-cut : (w : ℕ) (b : List ℕ) (p : ℕ) → p < w → Has b p → Has (cut w b) p
 Has-cut w [] p below has = absurd has

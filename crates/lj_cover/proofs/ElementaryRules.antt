@@ -1,20 +1,14 @@
 -- The rules drop, add, grow and lower cover where their child does.
-use Rattle.std.proofs.Common.{◌≡◌, ℕ, suc, ◌+◌, ◌-◌, ◌<◌, ◌≤◌, List, [], ◌∷◌, length, map, refl, sym, ap, ◌∙◌, subst, arith, inl, inr, ⊎_elim, length-append}
-use Rattle.lj_base.specs.Blocks.{Ascends, IsBlock, Within, SomeContains, Covers}
-use Rattle.lj_base.proofs.Lists.{Ascends-append}
+use Rattle.std.proofs.Common.{◌≡◌, ℕ, suc, ◌+◌, ◌-◌, ◌<◌, ◌≤◌, List, [], ◌∷◌, length, refl, sym, ap, ◌∙◌, subst, arith, inl, ⊎_elim, length-append}
+use Rattle.lj_base.specs.Blocks.{Ascends, IsBlock, SomeContains, Covers}
+use Rattle.lj_base.proofs.Ascending.{Ascends-append, Ascends-wider, Has-append_left, Has-append_right, SomeContains-map, Within-append, Within-larger}
+use Rattle.lj_base.proofs.Lists.{AllByRecursion-map}
 use Rattle.lj_cover.specs.Operations.{add_point, cut, drop_last, fill}
 use Rattle.lj_cover.specs.BlockLists.{drop_blocks, add_blocks, grow_blocks}
 use Rattle.lj_cover.specs.Rules.{triple}
-use Rattle.lj_cover.proofs.Points.{AllByRecursion-map, Ascends-wider, Has-append_left, Has-append_right, Within-append, Within-larger}
-use Rattle.lj_cover.proofs.Filling.{Has-fill, IsBlock-fill, covers_fewer}
-use Rattle.lj_cover.proofs.Cutting.{Ascends-cut, Within-cut, length-cut}
-use Rattle.lj_cover.proofs.Splitting.{EndsIn, last_or_below}
-
--- where f brings each block that contains s to one that contains t
-pub SomeContains-map : (f : List ℕ → List ℕ) (bs : List (List ℕ)) (s t : List ℕ) → ((b : List ℕ) → Within s b → Within t (f b)) → SomeContains bs s → SomeContains (map f bs) t
-SomeContains-map f [] s t step h = absurd h
-SomeContains-map f (b ∷ bs) s t step (inl here) = inl (step b here)
-SomeContains-map f (b ∷ bs) s t step (inr rest) = inr (SomeContains-map f bs s t step rest)
+use Rattle.lj_cover.proofs.FilledBlocks.{Has-fill, IsBlock-fill, covers_fewer}
+use Rattle.lj_cover.proofs.CutsOfBlocks.{Ascends-cut, Within-cut, length-cut}
+use Rattle.lj_cover.proofs.SidesOfSets.{EndsIn, last_or_below}
 
 pub drop_covers : (v k t : ℕ) (bs : List (List ℕ)) → k ≤ v → Covers bs (triple (v + 1) k t) → Covers (drop_blocks v bs) (triple v k t)
 drop_covers v k t bs room h = record {

@@ -4,30 +4,23 @@ use Rattle.std.proofs.Math.Nat.{div-mul-le_self, lt-div-mul-add}
 use Rattle.std.proofs.lemmas.Nat.{le-div}
 use Rattle.std.proofs.lemmas.Bool.{cases_eq}
 use Rattle.std.proofs.lemmas.List.FromFn.{length-map-range_with_len, length-range_with_len}
-use Rattle.std.specs.List.{AllByRecursion, range_with_len}
+use Rattle.std.specs.List.{range_with_len}
 use Rattle.lj_base.specs.Blocks.{Ascends, IsBlock, Has, Within, SomeContains, AreBlocks, Covers}
 use Rattle.lj_base.specs.Colex.{sets}
+use Rattle.lj_base.proofs.Ascending.{Ascends-range, Ascends-wider, Has-append_left, Has-append_right, Has-below, Has-range, SomeContains-append_left, SomeContains-append_right, SomeContains-map, Within-append, Within-from_Has, Within-larger}
+use Rattle.lj_base.proofs.Lists.{AllByRecursion-append, AllByRecursion-made, AllByRecursion-map, AllByRecursion-weaker}
 use Rattle.lj_cover.specs.Operations.{cut}
 use Rattle.lj_cover.specs.BlockLists.{ceil_div, one_block, run, run_blocks}
 use Rattle.lj_cover.specs.Rules.{triple}
-use Rattle.lj_cover.proofs.Points.{AllByRecursion-append, AllByRecursion-map, Ascends-wider, Has-append_left, Has-append_right, SomeContains-append_left, SomeContains-append_right, Within-append, Within-from, Within-larger, below-Has}
-use Rattle.lj_cover.proofs.Filling.{Has-fill, IsBlock-fill}
-use Rattle.lj_cover.proofs.Cutting.{Ascends-cut, Has-cut, length-cut}
-use Rattle.lj_cover.proofs.Splitting.{EndsIn, last_or_below}
-use Rattle.lj_cover.proofs.Elementary.{Ascends-add_point, SomeContains-map}
-use Rattle.lj_cover.proofs.Inducing.{AllByRecursion-weaker, Has-range}
-
-pub Ascends-range : (lo n : ℕ) → Ascends lo (lo + n) (range_with_len lo n)
-Ascends-range lo zero = tt
-Ascends-range lo (suc n) =
-    let next : lo + 1 ≡ suc lo = omega arith in
-    let end : lo + 1 + n ≡ lo + suc n = omega arith in
-    (omega arith, omega arith, subst (λ m. Ascends m (lo + suc n) (range_with_len (lo + 1) n)) next (subst (λ v. Ascends (lo + 1) v (range_with_len (lo + 1) n)) end (Ascends-range (lo + 1) n)))
+use Rattle.lj_cover.proofs.FilledBlocks.{Has-fill, IsBlock-fill}
+use Rattle.lj_cover.proofs.CutsOfBlocks.{Ascends-cut, Has-cut, length-cut}
+use Rattle.lj_cover.proofs.SidesOfSets.{EndsIn, last_or_below}
+use Rattle.lj_cover.proofs.ElementaryRules.{Ascends-add_point}
 
 pub one_covers : (v k t : ℕ) → k ≤ v → (t ≡ 0) ⊎ (k ≡ v) → Covers (one_block k) (triple v k t)
 one_covers v k t room why = record {
   blocks = ((Ascends-wider 0 0 (0 + k) v (range_with_len 0 k) (omega arith) (omega arith) (Ascends-range 0 k), length-range_with_len 0 k), tt);
-  sets = λ s set. inl (Within-from s (range_with_len 0 k) (λ p has. Has-range 0 k p (omega arith) (inside s set p has)));
+  sets = λ s set. inl (Within-from_Has s (range_with_len 0 k) (λ p has. Has-range 0 k p (omega arith) (inside s set p has)));
 }
   where
     nothing : (s : List ℕ) (p : ℕ) → length s ≡ 0 → Has s p → ⊥
@@ -36,12 +29,8 @@ one_covers v k t room why = record {
 
     inside : (s : List ℕ) → IsBlock v t s → (p : ℕ) → Has s p → p < 0 + k
     inside s set p has =
-        let below = below-Has 0 v s p set.0 has in
+        let below = Has-below 0 v p s set.0 has in
         ⊎_elim (λ e. absurd (nothing s p (set.1 ∙ e) has)) (λ e. omega arith) why
-
-AllByRecursion-made : {X Y : Type 0} (Q : Y → Type 0) (f : X → Y) (xs : List X) → ((x : X) → Q (f x)) → AllByRecursion Q (map f xs)
-AllByRecursion-made Q f [] each = tt
-AllByRecursion-made Q f (x ∷ xs) each = (each x, AllByRecursion-made Q f xs each)
 
 SomeContains-range : (f : ℕ → List ℕ) (lo n i : ℕ) (s : List ℕ) → lo ≤ i → i < lo + n → Within s (f i) → SomeContains (map f (range_with_len lo n)) s
 SomeContains-range f lo zero i s from to within = absurd (omega arith)
