@@ -3,7 +3,8 @@ use Rattle.std.specs.Prelude.{◌≡◌, ℕ, ◌≤◌, List, [], ◌∷◌}
 use Rattle.std.specs.List.{Contains}
 use Rattle.lj_base.specs.Cells.{IsCell, Triple}
 use Rattle.lj_base.specs.Frames.{InFrame, Top}
-use Rattle.lj_cover.specs.Rules.{Rule, Upload, Condition, ForUpload, IsCovering, rule_cell, rule_children, rule_blocks, rule_cost}
+use Rattle.lj_cover.specs.Rules.{Rule, Upload, Condition, ForUpload, IsCovering, rule_cell, rule_children, rule_blocks}
+use Rattle.lj_cover.specs.Rules.{rule_cost}
 
 mutual
   -- a rule over the trees of its children

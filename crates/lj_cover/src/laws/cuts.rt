@@ -1,4 +1,5 @@
-ghost use Rattle.std.specs.Prelude.{◌≡◌, ℕ, ◌+◌, ◌<◌, ◌≤◌, ◌==◌, ◌↔◌, ◌⊎◌, IsTrue, List, [], map, length, slice_index, sum};
+ghost use Rattle.std.specs.Prelude.{◌≡◌, ℕ, ◌+◌, ◌<◌, ◌≤◌, ◌==◌, ◌↔◌, ◌⊎◌, IsTrue, List, [], map, length, slice_index};
+ghost use Rattle.std.specs.Prelude.{sum};
 ghost use Rattle.std.specs.List.{count_by};
 ghost use Rattle.lj_base.specs.Blocks.{AreBlocks, Ascends, Has};
 ghost use Rattle.lj_cover.specs.BlockLists.{at_size, blocks_of_cut, cut_sizes};

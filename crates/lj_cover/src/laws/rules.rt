@@ -3,10 +3,13 @@ ghost use Rattle.std.specs.List.{AllByRecursion, AllZip, flat_map, sum_by};
 ghost use Rattle.lj_base.specs.Blocks.{Covers};
 ghost use Rattle.lj_base.specs.Cells.{Triple};
 ghost use Rattle.lj_base.specs.Colex.{choose, sets};
-ghost use Rattle.lj_cover.specs.BlockLists.{add_blocks, ceil_div, cut_sizes, derived_blocks, derived2_blocks, drop_blocks, grow_blocks, induced_blocks, one_block, product_blocks, run_blocks};
+ghost use Rattle.lj_cover.specs.BlockLists.{add_blocks, ceil_div, cut_sizes, derived_blocks, derived2_blocks};
+ghost use Rattle.lj_cover.specs.BlockLists.{drop_blocks, grow_blocks, induced_blocks, one_block, product_blocks};
+ghost use Rattle.lj_cover.specs.BlockLists.{run_blocks};
 ghost use Rattle.lj_cover.specs.Derivations.{IsSound};
 ghost use Rattle.lj_cover.specs.Instances.{IsStep};
-ghost use Rattle.lj_cover.specs.Rules.{Chain, Part, Rule, Splits, part_cells, rule_blocks, rule_cell, rule_children, rule_cost, triple};
+ghost use Rattle.lj_cover.specs.Rules.{Chain, Part, Rule, Splits, part_cells, rule_blocks, rule_cell, rule_children};
+ghost use Rattle.lj_cover.specs.Rules.{rule_cost, triple};
 ghost use Rattle.lj_cover.specs.Sources.{IsBlockwise, gives, share, source};
 
 /// One block covers where sets have no point or a block has every point.

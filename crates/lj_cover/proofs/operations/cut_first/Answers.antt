@@ -6,7 +6,12 @@ use Rattle.lj_cover.proofs.CutsOfBlocks.{length-cut}
 use Rattle.lj_cover.proofs.operations.cut_first.Goals as goal
 
 pub push-requires-clause-in_range : goal.push-requires-clause-in_range
-push-requires-clause-in_range c = omega (arith, c.at-point.ensures, Ascends-get_or_below 0 99 c.args.b c.loop-i.i c.len-i-end.ensures.ascends (omega arith))
+push-requires-clause-in_range c = omega (
+  arith,
+  c.at-point.ensures,
+  Ascends-get_or_below 0 99 c.args.b c.loop-i.i
+      c.len-i-end.ensures.ascends (omega arith),
+)
 
 pub push-requires-clause-greatest : goal.push-requires-clause-greatest
 push-requires-clause-greatest c =
@@ -17,4 +22,11 @@ push-requires-clause-greatest c =
 
 pub push-requires-clause-room : goal.push-requires-clause-room
 push-requires-clause-room c =
-    omega (arith, ap length c.loop-i.invariant, length-cut c.args.w (take c.loop-i.i c.args.b), length-take c.loop-i.i c.args.b, c.len-i-end.ensures.short)
+    omega (
+      arith,
+      ap length c.loop-i.invariant,
+      length-cut c.args.w
+          (take c.loop-i.i c.args.b),
+      length-take c.loop-i.i c.args.b,
+      c.len-i-end.ensures.short,
+    )

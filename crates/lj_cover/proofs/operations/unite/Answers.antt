@@ -14,4 +14,5 @@ pub push-requires-clause-greatest : goal.push-requires-clause-greatest
 push-requires-clause-greatest c =
     let i = c.loop-i.i in
     subst₂ AllBelow (sym (ap (λ p. c.args.v1 + p) c.at.ensures)) (sym c.loop-i.invariant)
-    (AllBelow-unite c.args.v1 (get_or c.args.b i 0) c.args.a (take i c.args.b) c.requires.first (AllBelow-take 0 99 c.args.b i c.len-i-end.ensures.ascends (omega arith)))
+    (AllBelow-unite c.args.v1 (get_or c.args.b i 0) c.args.a (take i c.args.b) c.requires.first
+    (AllBelow-take 0 99 c.args.b i c.len-i-end.ensures.ascends (omega arith)))
