@@ -11,7 +11,7 @@ use Rattle.lj_cover.specs.BlockLists.{add_blocks, drop_blocks, grow_blocks}
 use Rattle.lj_cover.specs.Rules.{triple}
 use Rattle.lj_cover.proofs.ElementaryRules.{add_covers, drop_covers, grow_covers, lower_covers}
 
--- a design's list, as its parts tell it
+-- a design's list covers its cell, given by the three numbers
 pub covering : (v k t : ℕ) (c : Triple) (items bs : List (List ℕ)) → triple v k t ≡ c → items ≡ bs → Covers bs c
     → Covers items (triple v k t)
 covering v k t c items bs same list h = subst₂ Covers (sym list) (sym same) h

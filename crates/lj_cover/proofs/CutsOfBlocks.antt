@@ -1,5 +1,6 @@
 -- The points of a block below a bound, and tests for a point.
-use Rattle.std.proofs.Common.{◌≡◌, ℕ, suc, ◌<◌, ◌≤◌, ◌↔◌, IsTrue, Bool, true, false, refl, ltb, List, [], ◌∷◌, length, sym, subst, arith}
+use Rattle.std.proofs.Common.{◌≡◌, ℕ, suc, ◌<◌, ◌≤◌, ◌↔◌, IsTrue, Bool, true, false, refl, ltb, List, [], ◌∷◌, length}
+use Rattle.std.proofs.Common.{sym, subst, arith}
 use Rattle.std.proofs.Common.{inl, inr, ⊎_elim}
 use Rattle.std.proofs.lemmas.Bool.{and_from, and_parts, cond_both, cond-true, lt-ltb, ltb-true, eqb-true, eq-eqb}
 use Rattle.std.proofs.lemmas.Bool.{or_cases, or_left, or_right, false≢true}
@@ -76,6 +77,8 @@ from_cut w (x ∷ xs) p has0 =
 pub points_of_cut : (w : ℕ) (b : List ℕ) (p : ℕ) → Has (cut w b) p ↔ (Has b p × (p < w))
 points_of_cut w b p = (from_cut w b p, λ facts. Has-cut w b p facts.1 facts.0)
 
-pub length-cut_below : (v w : ℕ) (b : List ℕ) → Ascends 0 v b → length (cut w b) ≤ w
-length-cut_below v w b h =
-    let room = length-ascending 0 w (cut w b) (omega arith) (Ascends-cut w 0 v b h) in omega arith
+pub length-cut_below : (lo v w : ℕ) (b : List ℕ) → Ascends lo v b → length (cut w b) ≤ w
+length-cut_below lo v w b h =
+    let whole = Ascends-wider lo 0 v v b (omega arith) (omega arith) h in
+    let room = length-ascending 0 w (cut w b) (omega arith) (Ascends-cut w 0 v b whole) in
+    omega arith

@@ -28,7 +28,7 @@ drop_covers v k t bs room h = record {
         (Ascends-cut v 0 (v + 1) b block.0) in
         (made.0, made.1 ∙ block.1)
 
--- the last point, put behind the points below it
+-- the last point, after the points below it
 pub Ascends-add_point : (v : ℕ) (b : List ℕ) → Ascends 0 v b → Ascends 0 (suc v) (add_point v b)
 Ascends-add_point v b h =
     Ascends-append 0 v (suc v) b (v ∷ []) (omega arith) (omega arith) h (omega arith, omega arith, tt)

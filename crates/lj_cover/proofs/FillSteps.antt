@@ -8,7 +8,7 @@ use Rattle.lj_base.proofs.Ascending.{AllBelow-push, AllBelow-wider}
 use Rattle.lj_cover.specs.Operations.{add_missing, fill}
 use Rattle.lj_cover.proofs.AppendedPoints.{add_missing_new, add_missing_own}
 
--- the filled points, of those below `point`, so many of the block's own, and how many are still missing
+-- the points filled in so far are below `point`: `taken` of them are the block's own, and `missing` are still to come
 pub record IsFilling (k : ℕ) (b filled : List ℕ) (taken missing point placed : ℕ) : Type 0 where
   pub result : filled ++ add_missing point missing (drop taken b) ≡ fill k b
   pub count : length filled ≡ placed

@@ -1,4 +1,4 @@
--- Filling a block: it keeps its points, ascends, and has as many as asked.
+-- A filled block keeps its points, ascends, and has k points.
 use Rattle.std.proofs.Common.{◌≡◌, ℕ, zero, suc, ◌+◌, ◌-◌, ◌<◌, ◌≤◌, eqb, List, [], ◌∷◌, length, refl, sym, ap, subst}
 use Rattle.std.proofs.Common.{arith, inl, inr}
 use Rattle.std.proofs.lemmas.Bool.{cond_both, eqb-true, eqb-false}

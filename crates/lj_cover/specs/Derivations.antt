@@ -30,7 +30,7 @@ pub record IsSound (r : Rule) : Type 0 where
   pub upload_covers : ForUpload IsCovering r
 
 abbrev mutual
-  -- each rule in the tree is sound, and its children's trees are of the cells that it asks for
+  -- each rule in the tree is sound, and its children's trees are of the cells of its children
   pub IsDerivation : Tree → Type 0
   IsDerivation (node r ds) = IsSound r × (root_cells ds ≡ rule_children r) × AreDerivations ds
 

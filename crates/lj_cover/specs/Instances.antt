@@ -81,7 +81,7 @@ pub data Reads (frame : Top) (reader child : Triple) : Type 0 where
   -- what the reader has beside the child makes a second factor
   by_product : child.v < reader.v → child.k ≤ reader.k → child.t ≤ reader.t
       → reader.t - child.t ≤ reader.k - child.k → reader.k - child.k ≤ reader.v - child.v → Reads frame reader child
-  -- a block of the frame may have so many points below the reader's v
+  -- a block of the frame may have as many points below the reader's v as the child has
   by_induced : child ≡ triple child.v reader.k reader.t → reader.k < child.v → child.v ≤ reader.v
       → child.v ≤ frame.top.k → Reads frame reader child
 

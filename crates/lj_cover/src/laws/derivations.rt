@@ -10,8 +10,8 @@ ghost use Rattle.lj_cover.specs.Lower.{schonheim};
 ghost use Rattle.lj_cover.specs.Rules.{ForUpload, Rule, Upload, rule_cell, triple};
 ghost use Rattle.lj_cover.specs.Uses.{DerivableBy};
 
-/// The expansion law: the blocks of a derivation cover its cell and are as many as it costs. So each derivable number is
-/// the size of a covering.
+/// The expansion law: the blocks of a derivation cover its cell and are as many as it costs. So each derivable number
+/// is the size of a covering.
 pub fn expansion_covers()
     ensures covers { (d : Tree) → IsDerivation d → Covers (expand d) (root_cell d) }
     ensures counts { (d : Tree) → length (expand d) ≡ tree_cost d }

@@ -29,7 +29,8 @@ pub fn price_grows()
     ensures grows { (r : Rule) (ms ns : List ℕ) → AllZip (λ m n. m ≤ n) ms ns → rule_cost r ms ≤ rule_cost r ns }
 {}
 
-/// The price of an instance by numbers that are derivable is derivable: the children's derivations are put together.
+/// The price of an instance by numbers that are derivable is derivable: the children's derivations are joined under its
+/// rule.
 pub fn prices_are_derivable()
     ensures { (frame : Top) (uploads : List Upload) (bounds : Triple → ℕ) (c : Triple) (r : Rule)
         → AreUploads frame uploads
