@@ -7,15 +7,18 @@ use Rattle.lj_base.specs.Cells.{Triple}
 use Rattle.lj_base.specs.Frames.{Top}
 use Rattle.lj_text.specs.Lines.{StandFrom, after_line, line_text}
 use Rattle.lj_text.specs.declared.lines.Line.{Line}
-use Rattle.lj_script.specs.Items.{AddsItem, FitsBehind, HasRoom, IsItem, Item, new_client, new_command, with_command, with_item}
-use Rattle.lj_script.specs.Scripts.{AreCommands, AreSections, Begins, Completes, IsBody, IsCommand, IsReadUpTo, IsWithin, Says, last_commands, words, words_of}
+use Rattle.lj_script.specs.Items.{AddsItem, FitsAfter, HasRoom, IsItem, Item, new_client, new_command, with_command, with_item}
+use Rattle.lj_script.specs.LineForms.{Says, words, words_of}
+use Rattle.lj_script.specs.Scripts.{AreCommands, AreSections, Begins, Completes, IsBody, IsCommand, IsReadUpTo, IsWithin}
+use Rattle.lj_script.specs.Faults.{last_commands}
 use Rattle.lj_script.specs.Values.{SectionValue}
+use Rattle.lj_script.specs.declared.limits.TheConstants.{MAX_CLIENTS, MAX_COMMANDS}
 use Rattle.lj_script.specs.declared.forms.Form.{Form}
 use Rattle.lj_script.specs.declared.forms.Form.TheVariants.{Client, Upload as Offer, UploadFile as OfferFile, Ask}
 use Rattle.lj_script.specs.declared.scripts.Command.{Command}
 use Rattle.lj_script.specs.declared.scripts.Command.TheVariants.{Upload, UploadFile, Bound, Plan, Expand, Settle}
 use Rattle.lj_script.proofs.Searching.{AllByRecursion-append}
-use Rattle.lj_script.proofs.Standing.{StandFrom-behind, StandFrom-earlier}
+use Rattle.lj_script.proofs.LinesInOrder.{StandFrom-after, StandFrom-earlier}
 
 -- what is known of an `Ok` stays known behind a `map_err`
 pub OnOk-mapped : {T E F : Type 0} (P : Type 0) (Q : E → F → Type 0) (r : Result T E) (s : Result T F) → MatchResult r (λ x. s ≡ Ok x) (λ e. IsErrAnd s (Q e)) → OnOk r P → OnOk s P
@@ -40,7 +43,7 @@ IsCommand-ask bytes line rest (Expand c) says = record { first = line; others = 
 IsCommand-ask bytes line rest Settle says = record { first = line; others = rest; begins = record { lines_are = refl; says = says }; completes = refl }
 
 module _ {bytes : List ℕ} {line : Line} {rest : List Line} {before now : List SectionValue} where
-  pub AddsItem-client : (name : List ℕ) → Says (words bytes line) (Client name) → FitsBehind before (new_client name) × (now ≡ with_item before (new_client name))
+  pub AddsItem-client : (name : List ℕ) → Says (words bytes line) (Client name) → FitsAfter before (new_client name) × (now ≡ with_item before (new_client name))
       → AddsItem bytes (line ∷ rest) rest before now
   AddsItem-client name says h = record { item = new_client name; is = (line, record { lines_are = refl; says = says }); fits = h.0; added = h.1 }
 
@@ -127,25 +130,25 @@ length-with_command (s ∷ []) c = refl
 length-with_command (s ∷ (r ∷ ss)) c = let rest = length-with_command (r ∷ ss) c in omega arith
 
 abbrev pub AreFew : List SectionValue → Type 0
-AreFew sections = AllByRecursion (λ s. length s.commands ≤ 4096) sections
+AreFew sections = AllByRecursion (λ s. length s.commands ≤ MAX_COMMANDS) sections
 
-few-with_command : (ss : List SectionValue) (c : Command) → AreFew ss → last_commands ss < 4096 → AreFew (with_command ss c)
+few-with_command : (ss : List SectionValue) (c : Command) → AreFew ss → last_commands ss < MAX_COMMANDS → AreFew (with_command ss c)
 few-with_command [] c h room = tt
 few-with_command (s ∷ []) c h room = (omega (arith, length-append s.commands (c ∷ [])), tt)
 few-with_command (s ∷ (r ∷ ss)) c h room = (h.0, few-with_command (r ∷ ss) c h.1 room)
 
-IsWithin-with_item : (sections : List SectionValue) (item : Item) → IsWithin sections → FitsBehind sections item → IsWithin (with_item sections item)
+IsWithin-with_item : (sections : List SectionValue) (item : Item) → IsWithin sections → FitsAfter sections item → IsWithin (with_item sections item)
 IsWithin-with_item sections (new_client name) h fits =
     let one : SectionValue = record { name = name; commands = [] } in
-    let count : length (sections ++ one ∷ []) ≤ 16 = omega (arith, length-append sections (one ∷ []), fits.1) in
-    let none : length one.commands ≤ 4096 = omega arith in
-    (count, AllByRecursion-append (λ (s : SectionValue). length s.commands ≤ 4096) sections (one ∷ []) h.1 (none, tt))
+    let count : length (sections ++ one ∷ []) ≤ MAX_CLIENTS = omega (arith, length-append sections (one ∷ []), fits.1) in
+    let none : length one.commands ≤ MAX_COMMANDS = omega arith in
+    (count, AllByRecursion-append (λ (s : SectionValue). length s.commands ≤ MAX_COMMANDS) sections (one ∷ []) h.1 (none, tt))
 IsWithin-with_item sections (new_command c) h fits =
-    let count : length (with_command sections c) ≤ 16 = omega (arith, length-with_command sections c, h.0) in
+    let count : length (with_command sections c) ≤ MAX_CLIENTS = omega (arith, length-with_command sections c, h.0) in
     (count, few-with_command sections c h.1 fits.1)
 
 AreSections-with_item : (bytes : List ℕ) (sections : List SectionValue) (item : Item) (lines middle rest : List Line) → AreSections bytes [] sections lines middle
-    → IsItem bytes item middle rest → FitsBehind sections item → AreSections bytes [] (with_item sections item) lines rest
+    → IsItem bytes item middle rest → FitsAfter sections item → AreSections bytes [] (with_item sections item) lines rest
 AreSections-with_item bytes sections (new_client name) lines middle rest h is fits =
     AreSections-client bytes name is.0 [] sections lines middle rest h is.1 (λ (k, lt, e). omega arith) fits.0
 AreSections-with_item bytes sections (new_command c) lines middle rest h is fits = AreSections-command bytes c [] sections lines middle rest h is fits.0
@@ -167,7 +170,7 @@ IsReadUpTo-more {bytes} {frame} {before} {now} {lines} {rest} read adds =
 
 left_of_body : (bytes : List ℕ) (begin : Line) (place : ℕ) (lines : List Line) (body : List ℕ) (rest : List Line) → IsBody bytes begin lines body rest → StandFrom bytes place lines → StandFrom bytes 0 rest
 left_of_body bytes begin place lines body rest is h =
-    let behind = StandFrom-behind bytes place is.reaches.inner (is.end ∷ rest) (subst (StandFrom bytes place) is.reaches.lines_are h) in
+    let behind = StandFrom-after bytes place is.reaches.inner (is.end ∷ rest) (subst (StandFrom bytes place) is.reaches.lines_are h) in
     StandFrom-earlier bytes (after_line bytes is.end) 0 rest (omega arith) behind.2
 
 behind_first : (bytes : List ℕ) (lines others : List Line) (first : Line) → lines ≡ first ∷ others → StandFrom bytes 0 lines → StandFrom bytes 0 others

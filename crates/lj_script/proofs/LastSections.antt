@@ -5,7 +5,7 @@ use Rattle.std.proofs.lemmas.Option.{get_or_from_slice_get}
 use Rattle.std.proofs.lemmas.Bool.{false≢true}
 use Rattle.std.specs.List.{AllWithin, Contains, HoldsAt}
 use Rattle.lj_script.specs.Items.{with_command}
-use Rattle.lj_script.specs.Scripts.{last_commands}
+use Rattle.lj_script.specs.Faults.{last_commands}
 use Rattle.lj_script.specs.Values.{SectionValue}
 use Rattle.lj_script.specs.declared.scripts.Command.{Command}
 

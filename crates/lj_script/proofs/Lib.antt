@@ -5,5 +5,5 @@ pub mod SameItems
 pub mod OneReading
 pub mod Paths
 pub mod Searching
-pub mod Standing
+pub mod LinesInOrder
 pub mod Unique

@@ -4,7 +4,8 @@ use Rattle.std.specs.List.{AllByRecursion}
 use Rattle.lj_text.specs.Lines.{after_line}
 use Rattle.lj_text.specs.declared.lines.Line.{Line}
 use Rattle.lj_script.specs.Items.{IsItem, Item, new_client, new_command}
-use Rattle.lj_script.specs.Scripts.{Completes, IsBody, IsEnd, Says, command_form, words}
+use Rattle.lj_script.specs.LineForms.{IsEnd, Says, words}
+use Rattle.lj_script.specs.Scripts.{Completes, IsBody, command_form}
 use Rattle.lj_script.specs.declared.forms.Form.{Form}
 use Rattle.lj_script.specs.declared.forms.Form.TheVariants.{Client}
 use Rattle.lj_script.specs.declared.scripts.Command.{Command}

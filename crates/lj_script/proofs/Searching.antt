@@ -3,15 +3,16 @@ use Rattle.std.proofs.Common.{◌≡◌, ℕ, List, [], ◌∷◌, ◌++◌, ref
 use Rattle.std.specs.List.{AllByRecursion}
 use Rattle.lj_text.specs.Lines.{IsLineOf}
 use Rattle.lj_text.specs.declared.lines.Line.{Line}
-use Rattle.lj_script.specs.Scripts.{ReachesEnd, IsEnd}
+use Rattle.lj_script.specs.LineForms.{IsEnd}
+use Rattle.lj_script.specs.Scripts.{ReachesEnd}
 
 pub AllByRecursion-append : {X : Type 0} (P : X → Type 0) (xs ys : List X) → AllByRecursion P xs → AllByRecursion P ys → AllByRecursion P (xs ++ ys)
 AllByRecursion-append P [] ys h k = k
 AllByRecursion-append P (x ∷ xs) ys h k = (h.0, AllByRecursion-append P xs ys h.1 k)
 
-pub AllByRecursion-behind : {X : Type 0} (P : X → Type 0) (xs ys : List X) → AllByRecursion P (xs ++ ys) → AllByRecursion P ys
-AllByRecursion-behind P [] ys h = h
-AllByRecursion-behind P (x ∷ xs) ys h = AllByRecursion-behind P xs ys h.1
+pub AllByRecursion-after : {X : Type 0} (P : X → Type 0) (xs ys : List X) → AllByRecursion P (xs ++ ys) → AllByRecursion P ys
+AllByRecursion-after P [] ys h = h
+AllByRecursion-after P (x ∷ xs) ys h = AllByRecursion-after P xs ys h.1
 
 -- of the lines those before the ones that are left end no body
 pub record IsSearched (bytes : List ℕ) (lines left : List Line) : Type 0 where

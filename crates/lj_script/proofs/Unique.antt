@@ -5,7 +5,7 @@ use Rattle.std.proofs.lemmas.Slice.Eq.{bytes_eq-Decides}
 use Rattle.std.specs.Str.{bytes_eq}
 use Rattle.lj_base.specs.Cells.{Triple}
 use Rattle.lj_text.specs.Numbers.{number_of}
-use Rattle.lj_script.specs.Scripts.{NamesCell, Says, StartsWith}
+use Rattle.lj_script.specs.LineForms.{NamesCell, Says, StartsWith}
 use Rattle.lj_script.specs.declared.forms.Form.{Form}
 use Rattle.lj_script.specs.declared.forms.Form.TheVariants.{Client, Upload as Offer, UploadFile as OfferFile, Ask}
 use Rattle.lj_script.specs.declared.scripts.Command.TheVariants.{Upload, UploadFile, Bound, Plan, Expand, Settle}

@@ -1,6 +1,6 @@
 ghost use Rattle.std.specs.Prelude.{◌≡◌};
 ghost use Rattle.std.specs.Iterator.{YieldsFirstRef, item_count};
-ghost use Rattle.lj_script.specs.Scripts.{words_of};
+ghost use Rattle.lj_script.specs.LineForms.{words_of};
 
 use lj_text::Tokens;
 use std::marker::Model;

@@ -1,6 +1,6 @@
 use Rattle.std.proofs.Common.{ap, ◌∙◌}
 use Rattle.std.proofs.lemmas.Bool.{both_ways}
-use Rattle.lj_script.specs.Scripts.{words_of}
+use Rattle.lj_script.specs.LineForms.{words_of}
 use Rattle.lj_script.proofs.Searching.{IsSearched-past, with_left}
 use Rattle.lj_script.proofs.bodies.find_end.Goals as goal
 

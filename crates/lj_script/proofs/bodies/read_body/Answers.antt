@@ -1,6 +1,6 @@
 use Rattle.std.proofs.Common.{◌∷◌, subst}
 use Rattle.lj_text.specs.Lines.{StandFrom, after_line}
-use Rattle.lj_script.proofs.Standing.{StandFrom-behind, inside_of}
+use Rattle.lj_script.proofs.LinesInOrder.{StandFrom-after, inside_of}
 use Rattle.lj_script.proofs.bodies.read_body.Goals as goal
 
 pub find_end-requires : goal.find_end-requires
@@ -11,5 +11,5 @@ between-requires-clause-order c =
     let bytes = c.args.bytes.now in
     let place = after_line bytes c.args.line.now in
     let found = c.in-Some.ensures.found in
-    let behind = StandFrom-behind bytes place found.inner (c.in-Some.end ∷ c.find_end.new.lines) (subst (StandFrom bytes place) found.lines_are c.requires.rest) in
+    let behind = StandFrom-after bytes place found.inner (c.in-Some.end ∷ c.find_end.new.lines) (subst (StandFrom bytes place) found.lines_are c.requires.rest) in
     behind.0

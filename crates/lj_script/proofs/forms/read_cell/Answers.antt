@@ -1,7 +1,7 @@
 use Rattle.std.proofs.Common.{arith, ◌≡◌, ℕ, List, [], ◌∷◌, IfNone, sym, subst}
 use Rattle.std.proofs.lemmas.Grind.{common_steps}
 use Rattle.lj_base.specs.Cells.{Triple}
-use Rattle.lj_script.specs.Scripts.{NamesCell}
+use Rattle.lj_script.specs.LineForms.{NamesCell}
 use Rattle.lj_script.proofs.forms.read_cell.Goals as goal
 
 pub returns-clause-none : goal.returns-clause-none

@@ -1,6 +1,6 @@
 use Rattle.std.proofs.Common.{ℕ, List, ◌∷◌, IfNone, sym, subst}
 use Rattle.lj_base.specs.Cells.{Triple}
-use Rattle.lj_script.specs.Scripts.{NamesCell}
+use Rattle.lj_script.specs.LineForms.{NamesCell}
 use Rattle.lj_script.proofs.forms.rest_cell.Goals as goal
 
 pub returns-clause-none : goal.returns-clause-none

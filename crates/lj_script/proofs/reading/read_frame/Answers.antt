@@ -1,5 +1,6 @@
 use Rattle.std.proofs.Common.{◌≡◌, ◌∷◌, codes, refl, sym, ap, ◌∙◌, subst}
-use Rattle.lj_script.specs.Scripts.{NamesCell, SpoilsFrame, words, words_of}
+use Rattle.lj_script.specs.LineForms.{NamesCell, words, words_of}
+use Rattle.lj_script.specs.Faults.{SpoilsFrame}
 use Rattle.lj_script.proofs.reading.read_frame.Goals as goal
 
 pub new-requires : goal.new-requires

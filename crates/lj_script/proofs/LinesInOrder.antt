@@ -1,4 +1,4 @@
--- What follows from lines that stand one behind the other.
+-- Lines that follow one another in a text.
 use Rattle.std.proofs.Common.{ℕ, ◌≤◌, List, [], ◌∷◌, ◌++◌, arith}
 use Rattle.std.specs.List.{AllByRecursion}
 use Rattle.lj_text.specs.Lines.{IsLineOf, StandFrom, after_line}
@@ -11,10 +11,10 @@ StandFrom-earlier bytes place other (line ∷ lines) before h = (omega (arith, h
 stop_before : (bytes : List ℕ) (line : Line) → IsLineOf bytes line → line.stop ≤ after_line bytes line
 stop_before bytes line h = omega (arith, h.0, h.1)
 
-pub StandFrom-behind : (bytes : List ℕ) (place : ℕ) (xs ys : List Line) → StandFrom bytes place (xs ++ ys) → StandFrom bytes place ys
-StandFrom-behind bytes place [] ys h = h
-StandFrom-behind bytes place (x ∷ xs) ys h =
-    StandFrom-earlier bytes (after_line bytes x) place ys (omega (arith, h.0, h.1.0, stop_before bytes x h.1)) (StandFrom-behind bytes (after_line bytes x) xs ys h.2)
+pub StandFrom-after : (bytes : List ℕ) (place : ℕ) (xs ys : List Line) → StandFrom bytes place (xs ++ ys) → StandFrom bytes place ys
+StandFrom-after bytes place [] ys h = h
+StandFrom-after bytes place (x ∷ xs) ys h =
+    StandFrom-earlier bytes (after_line bytes x) place ys (omega (arith, h.0, h.1.0, stop_before bytes x h.1)) (StandFrom-after bytes (after_line bytes x) xs ys h.2)
 
 pub inside_of : (bytes : List ℕ) (place : ℕ) (lines : List Line) → StandFrom bytes place lines → AllByRecursion (IsLineOf bytes) lines
 inside_of bytes place [] h = tt
