@@ -8,7 +8,7 @@ use Rattle.lj_script.specs.LineForms.{IsEnd, IsFrameLine, Says, words}
 use Rattle.lj_script.specs.Values.{SectionValue, ScriptValue}
 use Rattle.lj_script.specs.declared.limits.TheConstants.{MAX_CLIENTS, MAX_COMMANDS}
 use Rattle.lj_script.specs.declared.scripts.Command.{Command}
-use Rattle.lj_script.specs.declared.scripts.Command.TheVariants.{Upload, UploadFile, Bound, Plan, Expand, Settle}
+use Rattle.lj_script.specs.declared.scripts.Command.TheVariants.{Upload, UploadFile}
 use Rattle.lj_script.specs.declared.forms.Form.{Form}
 use Rattle.lj_script.specs.declared.forms.Form.TheVariants.{Client, Upload as Offer, UploadFile as OfferFile, Ask}
 

@@ -1,5 +1,6 @@
-use crate::{Body, Command, Commands, Script, ScriptFault, Section, Sections};
-use crate::{read_script, script_law};
+use crate::{
+    Body, Command, Commands, Script, ScriptFault, Section, Sections, read_script, script_law,
+};
 use lj_base::{Cell, Frame, Memory};
 use lj_upload::Name;
 use std::alloc::Global;

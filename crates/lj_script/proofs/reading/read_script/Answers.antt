@@ -1,10 +1,10 @@
-use Rattle.std.proofs.Common.{◌≡◌, ◌⊎◌, ℕ, List, [], ◌∷◌, arith, refl, ◌∙◌, sym, subst, inl, inr, ⊎_elim}
+use Rattle.std.proofs.Common.{◌≡◌, ◌⊎◌, ℕ, List, [], ◌∷◌, arith, refl, ◌∙◌, sym, subst, inl, inr}
 use Rattle.std.proofs.lemmas.Grind.{common_steps}
 use Rattle.std.proofs.lemmas.Result.{err_from_is_err_and}
 use Rattle.lj_base.specs.Frames.{Top}
 use Rattle.lj_text.specs.Lines.{StandFrom, after_line, text_lines}
 use Rattle.lj_text.specs.declared.lines.Line.{Line}
-use Rattle.lj_script.specs.Scripts.{IsReadUpTo, IsScript}
+use Rattle.lj_script.specs.Scripts.{IsReadUpTo}
 use Rattle.lj_script.specs.Faults.{IsFaulty, IsFrameFault, IsScriptFault}
 use Rattle.lj_script.specs.Values.{ScriptValue, SectionValue}
 use Rattle.lj_script.specs.declared.faults.ScriptFault.{ScriptFault}
