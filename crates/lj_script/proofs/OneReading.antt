@@ -1,25 +1,28 @@
 -- Bytes spell one script at most, or have one fault at most.
 use Rattle.std.proofs.Common.{◌≡◌, ℕ, ◌<◌, List, [], ◌∷◌, length, refl, sym, ap, ◌∙◌, subst, arith, inl, inr}
 use Rattle.std.specs.List.{AllByRecursion, Contains}
+use Rattle.lj_base.proofs.Lists.{AllByRecursion-back}
 use Rattle.lj_base.specs.Cells.{Triple}
 use Rattle.lj_base.specs.Frames.{Top}
 use Rattle.lj_text.specs.Lines.{text_lines}
 use Rattle.lj_text.specs.declared.lines.Line.{Line}
+use Rattle.lj_text.specs.Tokens.{words}
 use Rattle.lj_script.specs.Items.{FitsAfter, IsItem, Item, new_client, new_command}
-use Rattle.lj_script.specs.LineForms.{IsEnd, IsFrameLine, Says, SaysCommand, SaysUpload, words}
+use Rattle.lj_script.specs.LineForms.{IsEnd, IsFrameLine, Says, SaysCommand, SaysUpload}
 use Rattle.lj_script.specs.Scripts.{IsBody, IsReadUpTo, IsScript}
-use Rattle.lj_script.specs.Faults.{Follows, HasFaultyLine, IsFaulty, IsFrameFault, IsScriptFault, LacksFrame, SpoilsFrame, last_commands}
+use Rattle.lj_script.specs.Faults.{Follows, HasFaultyLine, IsFaulty, IsFrameFault, IsScriptFault, LacksFrame}
+use Rattle.lj_script.specs.Faults.{SpoilsFrame, last_commands}
 use Rattle.lj_script.specs.Values.{ScriptValue, SectionValue}
 use Rattle.lj_script.specs.declared.limits.TheConstants.{MAX_COMMANDS}
 use Rattle.lj_script.specs.declared.faults.ScriptFault.{ScriptFault}
-use Rattle.lj_script.specs.declared.faults.ScriptFault.TheVariants.{NoFrame, BadLine, BadFrame, Unended, TooManyClients, TooManyCommands}
+use Rattle.lj_script.specs.declared.faults.ScriptFault.TheVariants.{NoFrame, BadLine, BadFrame, Unended, TooManyClients}
+use Rattle.lj_script.specs.declared.faults.ScriptFault.TheVariants.{TooManyCommands}
 use Rattle.lj_script.specs.declared.forms.Form.{Form}
 use Rattle.lj_script.specs.declared.forms.Form.TheVariants.{Client, Upload as Offer, UploadFile as OfferFile, Ask}
 use Rattle.lj_script.specs.declared.scripts.Command.{Command}
 use Rattle.lj_script.specs.declared.scripts.Command.TheVariants.{Upload, UploadFile}
 use Rattle.lj_script.proofs.Paths.{IsStuck, Leads, items_of, leads_by_sections, same_ends}
 use Rattle.lj_script.proofs.SameItems.{first_form, says_item}
-use Rattle.lj_script.proofs.Searching.{AllByRecursion-after}
 use Rattle.lj_script.proofs.Unique.{same_cell, same_form}
 
 -- ---- after a whole script and at a faulty line no item comes next
@@ -29,7 +32,8 @@ IsStuck-end bytes sections (new_client name) rest h fits = let none = h.1.lines_
 IsStuck-end bytes sections (new_command c) rest h fits = let none = h.begins.lines_are in cc
 
 -- the first line of an item that fits may follow the sections
-follows_item : (sections : List SectionValue) (item : Item) → FitsAfter sections item → Follows sections (first_form item)
+follows_item : (sections : List SectionValue) (item : Item) → FitsAfter sections item
+    → Follows sections (first_form item)
 follows_item sections (new_client name) fits = fits.0
 follows_item sections (new_command (Upload c body)) fits = fits.0
 follows_item sections (new_command (UploadFile body)) fits = fits.0
@@ -56,7 +60,7 @@ module _ (bytes : List ℕ) where
       → NoneEnds lines → ⊥
   no_body begin lines body rest is none =
       let last = subst NoneEnds is.reaches.lines_are none in
-      (AllByRecursion-after (λ line. IsEnd bytes line → ⊥) is.reaches.inner (is.end ∷ rest) last).0 is.reaches.ends
+      (AllByRecursion-back (λ line. IsEnd bytes line → ⊥) is.reaches.inner (is.end ∷ rest) last).0 is.reaches.ends
 
   module _ (line : Line) (later rest : List Line) where
     no_item-unended : (item : Item) → SaysUpload (words bytes line) → NoneEnds later
@@ -220,7 +224,8 @@ module _ (bytes : List ℕ) where
   no_fault script fault is (inr h) =
       let stuck = IsStuck-end bytes script.clients in
       let stuck' = IsStuck-faulty h.before h.line h.later fault h.faulty in
-      let none = (same_reading script.frame h.frame script.clients h.before [] (h.line ∷ h.later) is h.read stuck stuck').rest in
+      let none =
+      (same_reading script.frame h.frame script.clients h.before [] (h.line ∷ h.later) is h.read stuck stuck').rest in
       cc
 
   same_later : (f g : ScriptFault) → HasFaultyLine bytes f → HasFaultyLine bytes g → f ≡ g

@@ -4,14 +4,16 @@ use Rattle.std.specs.List.{AllByRecursion, Contains}
 use Rattle.lj_base.specs.Frames.{Top}
 use Rattle.lj_text.specs.Lines.{text_lines}
 use Rattle.lj_text.specs.declared.lines.Line.{Line}
-use Rattle.lj_script.specs.LineForms.{IsEnd, IsFrameLine, Says, SaysCommand, SaysUpload, StartsWith, words}
+use Rattle.lj_text.specs.Tokens.{words}
+use Rattle.lj_script.specs.LineForms.{IsEnd, IsFrameLine, Says, SaysCommand, SaysUpload, StartsWith}
 use Rattle.lj_script.specs.Scripts.{IsReadUpTo}
 use Rattle.lj_script.specs.Values.{SectionValue}
 use Rattle.lj_script.specs.declared.limits.TheConstants.{MAX_CLIENTS, MAX_COMMANDS}
 use Rattle.lj_script.specs.declared.forms.Form.{Form}
 use Rattle.lj_script.specs.declared.forms.Form.TheVariants.{Client}
 use Rattle.lj_script.specs.declared.faults.ScriptFault.{ScriptFault}
-use Rattle.lj_script.specs.declared.faults.ScriptFault.TheVariants.{NoFrame, BadLine, BadFrame, Unended, TooManyClients, TooManyCommands}
+use Rattle.lj_script.specs.declared.faults.ScriptFault.TheVariants.{NoFrame, BadLine, BadFrame, Unended, TooManyClients}
+use Rattle.lj_script.specs.declared.faults.ScriptFault.TheVariants.{TooManyCommands}
 
 -- the first line does not begin with `frame`, or there is none
 abbrev pub LacksFrame : List ℕ → List Line → Type 0

@@ -3,8 +3,9 @@ use Rattle.std.specs.Prelude.{◌≡◌, ℕ, ◌<◌, List, [], ◌∷◌, ◌+
 use Rattle.std.specs.List.{Contains}
 use Rattle.lj_base.specs.Frames.{Top}
 use Rattle.lj_text.specs.declared.lines.Line.{Line}
+use Rattle.lj_text.specs.Tokens.{words}
 use Rattle.lj_script.specs.Values.{SectionValue}
-use Rattle.lj_script.specs.LineForms.{IsFrameLine, words}
+use Rattle.lj_script.specs.LineForms.{IsFrameLine}
 use Rattle.lj_script.specs.Scripts.{Begins, IsCommand}
 use Rattle.lj_script.specs.Faults.{last_commands}
 use Rattle.lj_script.specs.declared.limits.TheConstants.{MAX_CLIENTS, MAX_COMMANDS}

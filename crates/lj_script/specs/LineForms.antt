@@ -1,24 +1,15 @@
 -- The forms of a script's lines, by their words.
-use Rattle.std.specs.Prelude.{◌≡◌, ℕ, ◌≤◌, ◌⊎◌, List, [], ◌∷◌, Some, codes, map}
+use Rattle.std.specs.Prelude.{◌≡◌, ℕ, ◌≤◌, ◌⊎◌, List, [], ◌∷◌, Some, codes}
 use Rattle.lj_base.specs.Cells.{IsCell, Triple}
 use Rattle.lj_base.specs.Frames.{Top}
-use Rattle.lj_text.specs.Lines.{line_text}
 use Rattle.lj_text.specs.Numbers.{number_of}
-use Rattle.lj_text.specs.Tokens.{token_text, tokens_of}
+use Rattle.lj_text.specs.Tokens.{words}
 use Rattle.lj_text.specs.declared.lines.Line.{Line}
 use Rattle.lj_upload.specs.Names.{IsName}
 use Rattle.lj_script.specs.declared.scripts.Command.{Command}
 use Rattle.lj_script.specs.declared.scripts.Command.TheVariants.{Upload, UploadFile, Bound, Plan, Expand, Settle}
 use Rattle.lj_script.specs.declared.forms.Form.{Form}
 use Rattle.lj_script.specs.declared.forms.Form.TheVariants.{Client, Upload as Offer, UploadFile as OfferFile, Ask}
-
--- the words of a line, from its text
-abbrev pub words_of : List ℕ → List (List ℕ)
-words_of text = map (token_text text) (tokens_of text)
-
--- the words of a line
-abbrev pub words : List ℕ → Line → List (List ℕ)
-words bytes line = words_of (line_text bytes line)
 
 -- a first word and three numbers, which make a cell with k of 1 or more
 pub record NamesCell (first : List ℕ) (line : List (List ℕ)) (c : Triple) : Type 0 where

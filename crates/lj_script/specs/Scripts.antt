@@ -4,7 +4,8 @@ use Rattle.std.specs.List.{AllByRecursion, Contains}
 use Rattle.lj_base.specs.Frames.{Top}
 use Rattle.lj_text.specs.Lines.{after_line, text_lines}
 use Rattle.lj_text.specs.declared.lines.Line.{Line}
-use Rattle.lj_script.specs.LineForms.{IsEnd, IsFrameLine, Says, words}
+use Rattle.lj_text.specs.Tokens.{words}
+use Rattle.lj_script.specs.LineForms.{IsEnd, IsFrameLine, Says}
 use Rattle.lj_script.specs.Values.{SectionValue, ScriptValue}
 use Rattle.lj_script.specs.declared.limits.TheConstants.{MAX_CLIENTS, MAX_COMMANDS}
 use Rattle.lj_script.specs.declared.scripts.Command.{Command}

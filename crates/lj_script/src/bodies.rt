@@ -2,14 +2,14 @@ ghost use Rattle.std.specs.Prelude.{◌≡◌, ◌⊎◌, ◌↔◌, ◌≤◌, 
 ghost use Rattle.std.specs.Prelude.{codes, length, slice_range};
 ghost use Rattle.std.specs.List.{AllByRecursion};
 ghost use Rattle.lj_text.specs.Lines.{IsLineOf, StandFrom, after_line, line_text};
-ghost use Rattle.lj_script.specs.LineForms.{IsEnd, words_of};
+ghost use Rattle.lj_text.specs.Tokens.{words_of};
+ghost use Rattle.lj_script.specs.LineForms.{IsEnd};
 ghost use Rattle.lj_script.specs.Scripts.{IsBody, ReachesEnd};
 
 use crate::faults::ScriptFault;
 use crate::forms::is_word;
 use crate::scripts::Body;
-use crate::words::Words;
-use lj_text::{Line, Lines, after_line};
+use lj_text::{Line, Lines, Words, after_line, line_order_law};
 use std::alloc::Global;
 
 // The body of the upload that a line begins, with the later lines up to the one that ends it taken from `rest`.
@@ -26,6 +26,7 @@ pub(crate) fn read_body(
         ⊎ ((fault ≡ ScriptFault.Unended line.now.number)
         × AllByRecursion (λ later. IsEnd bytes.now later → ⊥) rest.old)) }
 {
+    line_order_law();
     let Some(end) = find_end(bytes, rest) else {
         return Err(ScriptFault::Unended { line: line.number });
     };

@@ -1,12 +1,12 @@
 ghost use Rattle.std.specs.Prelude.{◌≡◌, ◌↔◌, ℕ, List, [], ◌∷◌, IsTrue, IfNone, IfSome, codes};
 ghost use Rattle.lj_base.specs.Cells.{Triple};
-ghost use Rattle.lj_script.specs.LineForms.{NamesCell, Says, words_of};
+ghost use Rattle.lj_text.specs.Tokens.{words_of};
+ghost use Rattle.lj_script.specs.LineForms.{NamesCell, Says};
 ghost use Rattle.lj_script.specs.declared.forms.Form.{Form};
 
 use crate::scripts::Command;
-use crate::words::Words;
 use lj_base::Cell;
-use lj_text::number;
+use lj_text::{Words, number};
 use lj_upload::Name;
 
 // What a line after the frame's says. `Ask` is a command of one line.

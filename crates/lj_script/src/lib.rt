@@ -9,7 +9,6 @@ mod laws;
 mod limits;
 mod reading;
 mod scripts;
-mod words;
 
 pub use faults::ScriptFault;
 pub use laws::script_law;

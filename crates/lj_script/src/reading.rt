@@ -14,9 +14,8 @@ use crate::growing::{add_client, check_room, push_command};
 use crate::laws::script_law;
 use crate::limits::MAX_CLIENTS;
 use crate::scripts::{Command, Script, Section, Sections};
-use crate::words::Words;
 use lj_base::Frame;
-use lj_text::{Line, Lines};
+use lj_text::{Line, Lines, Words, line_order_law};
 use std::alloc::Global;
 
 /// Reads a script: a line `frame V K T`, and for each client a line `client NAME` and its commands. The first line
@@ -32,6 +31,7 @@ pub fn read_script(alloc: Global, bytes: &[u8]) -> Result<Script, ScriptFault>
         → MatchResult result (λ _. ⊥) (λ found. (found ≡ fault) ⊎ (found ≡ ScriptFault.Memory)) }
 {
     script_law();
+    line_order_law();
     let mut lines = Lines::of(bytes);
     let frame = read_frame(bytes, &mut lines)?;
     let mut sections = Vec::new(alloc);

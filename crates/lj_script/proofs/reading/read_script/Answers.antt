@@ -9,8 +9,7 @@ use Rattle.lj_script.specs.Faults.{IsFaulty, IsFrameFault, IsScriptFault}
 use Rattle.lj_script.specs.Values.{ScriptValue, SectionValue}
 use Rattle.lj_script.specs.declared.faults.ScriptFault.{ScriptFault}
 use Rattle.lj_script.specs.declared.faults.ScriptFault.TheVariants.{Memory}
-use Rattle.lj_script.proofs.Adding.{IsReadUpTo-more, left_of_item}
-use Rattle.lj_script.proofs.LinesInOrder.{StandFrom-earlier}
+use Rattle.lj_script.proofs.Adding.{IsReadUpTo-more, after_item}
 use Rattle.lj_script.proofs.reading.read_script.Goals as goal
 
 -- out of memory, or the fault that the bytes have
@@ -44,6 +43,7 @@ loop-line-init c =
     let bytes = c.args.bytes.now in
     let read = c.in_ok-frame.ensures.frame in
     let lines = sym c.of-lines.ensures.walk ∙ read.lines_are in
+    let law = c.line_order_law.ensures in
     let known = subst (StandFrom bytes 0) read.lines_are c.of-lines.ensures.order in
     record {
       read = record {
@@ -54,17 +54,23 @@ loop-line-init c =
         are_sections = rw c.new-sections.ensures.items refl;
         within = rw c.new-sections.ensures.items (omega arith, tt);
       };
-      inside = StandFrom-earlier bytes (after_line bytes read.first) 0 c.read_frame.new.lines (omega arith) known.2;
+      inside = law.earlier bytes (after_line bytes read.first) 0 c.read_frame.new.lines (omega arith) known.2;
     }
 
 pub loop-line-preserved : goal.loop-line-preserved
 loop-line-preserved c =
     let bytes = c.args.bytes.now in
     let sections = c.loop-line.sections.items in
+    let law = c.line_order_law.ensures in
     let adds = c.in_ok-read_item.ensures.item in
-    let read = subst (IsReadUpTo bytes c.in_ok-frame.frame sections) c.in-Some.ensures.steps c.loop-line.invariant.read in
+    let read =
+    subst (IsReadUpTo bytes c.in_ok-frame.frame sections) c.in-Some.ensures.steps c.loop-line.invariant.read in
     let inside = subst (StandFrom bytes 0) c.in-Some.ensures.steps c.loop-line.invariant.inside in
-    record { read = IsReadUpTo-more read adds; inside = left_of_item bytes adds.item _ _ adds.is inside }
+    record {
+      read = IsReadUpTo-more read adds;
+      inside =
+          after_item law.earlier law.rest bytes adds.item _ _ adds.is inside;
+    }
 
 pub returns-in_err-frame-clause-fault : goal.returns-in_err-frame-clause-fault
 returns-in_err-frame-clause-fault c =
