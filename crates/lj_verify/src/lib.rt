@@ -1,12 +1,17 @@
 //! The check: whether blocks cover a cell, within limits, and if not the first set that no block contains.
 #![tactic(auto)]
 
+mod bits;
+mod covering;
 mod limits;
-mod marking;
+mod pairs;
+mod pieces;
 mod plain;
-mod ranges;
 mod refusals;
+mod sizes;
+mod strings;
+mod workers;
 
+pub use covering::check;
 pub use plain::check_plain;
-pub use ranges::check;
 pub use refusals::Refusal;
