@@ -1,13 +1,16 @@
 -- A point put at its place among those in an array.
-use Rattle.std.proofs.Common.{◌≡◌, ◌⊎◌, ◌↔◌, ℕ, zero, suc, ◌+◌, ◌-◌, ◌<◌, ◌≤◌, List, [], ◌∷◌, ◌++◌, length, take, drop, get_or, Result, Ok, Err, MatchResult, sym, ap, ◌∙◌, subst, arith, inl, inr, ⊎_elim}
+use Rattle.std.proofs.Common.{◌≡◌, ◌⊎◌, ◌↔◌, ℕ, zero, suc, ◌+◌, ◌-◌, ◌<◌, ◌≤◌, List, [], ◌∷◌, ◌++◌, length, take, drop}
+use Rattle.std.proofs.Common.{get_or, Result, Ok, Err, MatchResult, sym, ap, ◌∙◌, subst, arith, inl, inr, ⊎_elim}
 use Rattle.std.proofs.Math.ListN.{set, replicate}
-use Rattle.std.proofs.lemmas.List.{append_assoc, length-append, length-take-le, length-drop, set_at, take_at, take-append-drop, drop_at, length-replicate, take_more, take-take}
+use Rattle.std.proofs.lemmas.List.{append_assoc, length-append, length-take-le, length-drop, set_at, take_at}
+use Rattle.std.proofs.lemmas.List.{take-append-drop, drop_at, length-replicate, take_more, take-take}
 use Rattle.std.proofs.lemmas.List.Sorted.{searched}
 use Rattle.std.specs.List.{AllByRecursion, copy_within}
 use Rattle.std.specs.List.Sorted.{IsBinarySearchResult}
 use Rattle.std.specs.Ordering.{nat_cmp}
 use Rattle.lj_base.specs.Blocks.{AllBelow, Ascends, Has}
 use Rattle.lj_base.specs.Padding.{Lies}
+use Rattle.lj_base.proofs.Ascending.{Ascends-get_or_le, Has-at}
 
 -- each point is above p
 abbrev pub AllAbove : ℕ → List ℕ → Type 0
@@ -59,11 +62,6 @@ lacks zero p (x ∷ xs) below above (inr h) = lacks zero p xs tt above.1 h
 lacks (suc i) p (x ∷ xs) below above (inl e) = omega (arith, below.0, e)
 lacks (suc i) p (x ∷ xs) below above (inr h) = lacks i p xs below.1 above h
 
-pub Has-at : (xs : List ℕ) (i p : ℕ) → i < length xs → get_or xs i 0 ≡ p → Has xs p
-Has-at [] i p h e = omega arith
-Has-at (x ∷ xs) zero p h e = inl e
-Has-at (x ∷ xs) (suc i) p h e = inr (Has-at xs i p (omega arith) e)
-
 pub below_from : (xs : List ℕ) (i p : ℕ) → ((k : ℕ) → k < i → get_or xs k 0 < p) → AllBelow p (take i xs)
 below_from [] zero p h = tt
 below_from [] (suc i) p h = tt
@@ -77,17 +75,8 @@ above_from (x ∷ xs) zero p h = (h 0 (omega arith) (omega arith), above_from xs
 above_from (x ∷ xs) (suc i) p h = above_from xs i p (λ k le lt. h (suc k) (omega arith) (omega arith))
 
 -- ascending points rise from place to place
-above_lo : (lo v : ℕ) (xs : List ℕ) (k : ℕ) → Ascends lo v xs → k < length xs → lo ≤ get_or xs k 0
-above_lo lo v [] k h lt = absurd (omega arith)
-above_lo lo v (x ∷ xs) zero h lt = h.0
-above_lo lo v (x ∷ xs) (suc k) h lt = let rest = above_lo (suc x) v xs k h.2 (omega arith) in omega (arith, rest, h.0)
-
 pub rises : (lo v : ℕ) (xs : List ℕ) → Ascends lo v xs → (i j : ℕ) → i ≤ j → j < length xs → get_or xs i 0 ≤ get_or xs j 0
-rises lo v [] h i j le lt = absurd (omega arith)
-rises lo v (x ∷ xs) h zero zero le lt = omega arith
-rises lo v (x ∷ xs) h zero (suc j) le lt = let rest = above_lo (suc x) v xs j h.2 (omega arith) in omega (arith, rest)
-rises lo v (x ∷ xs) h (suc i) zero le lt = absurd (omega arith)
-rises lo v (x ∷ xs) h (suc i) (suc j) le lt = rises (suc x) v xs h.2 i j (omega arith) (omega arith)
+rises lo v xs h i j le lt = Ascends-get_or_le lo v xs i j h le lt
 
 -- where a search for p ended: it is there, or its place is known
 pub placed : (xs : List ℕ) (p : ℕ) (r : Result ℕ ℕ) → Ascends 0 99 xs → IsBinarySearchResult (λ y. nat_cmp y p) xs r
@@ -97,7 +86,7 @@ placed xs p r h found = told r (searched xs p r found (rises 0 99 xs h))
     told : (r : Result ℕ ℕ) → MatchResult r (λ i. (i < length xs) × (get_or xs i 0 ≡ p))
         (λ i. (i ≤ length xs) × ((k : ℕ) → k < i → get_or xs k 0 < p) × ((k : ℕ) → i ≤ k → k < length xs → p < get_or xs k 0))
         → MatchResult r (λ i. Has xs p) (λ i. (i ≤ length xs) × AllBelow p (take i xs) × AllAbove p (drop i xs))
-    told (Ok i) f = Has-at xs i p f.0 f.1
+    told (Ok i) f = subst (Has xs) f.1 (Has-at xs i f.0)
     told (Err i) f = (f.0, below_from xs i p f.1, above_from xs i p f.2)
 
 -- the points from i on move up by one, and p is put at i

@@ -1,6 +1,7 @@
+pub mod Ascending
+pub mod Lists
 pub mod Counting
 pub mod Order
 pub mod Triangle
 pub mod Places
 pub mod Inserted
-pub mod Lists

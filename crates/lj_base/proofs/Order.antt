@@ -1,27 +1,13 @@
 -- Where a cell stands in the list of a frame's cells.
-use Rattle.std.proofs.Common.{◌≡◌, ℕ, zero, suc, ◌+◌, ◌-◌, ◌<◌, ◌≤◌, min, List, [], ◌∷◌, ◌++◌, length, Some, refl, sym, ap, ◌∙◌, subst, arith}
+use Rattle.std.proofs.Common.{◌≡◌, ℕ, zero, suc, ◌+◌, ◌-◌, ◌<◌, ◌≤◌, min, List, ◌++◌, length, Some, refl, sym}
+use Rattle.std.proofs.Common.{ap, ◌∙◌, subst, arith}
 use Rattle.std.proofs.lemmas.List.{length-append}
 use Rattle.std.proofs.Common.{⊎_elim}
 use Rattle.std.proofs.lemmas.Bool.{cases_lt}
 use Rattle.std.specs.List.{flat_map, range_with_len, slice_get}
 use Rattle.lj_base.specs.Cells.{Triple}
+use Rattle.lj_base.proofs.Lists.{slice_get-append_left, slice_get-append_right, slice_get-inside}
 use Rattle.lj_base.specs.Frames.{Top, InFrame, cells_with, cells_of, before_k, up_to_v, index_of, size_of}
-
-get-append_left : {X : Type 0} (xs ys : List X) (n : ℕ) → n < length xs → slice_get (xs ++ ys) n ≡ slice_get xs n
-get-append_left [] ys n h = absurd (omega arith)
-get-append_left (x ∷ xs) ys zero h = refl
-get-append_left (x ∷ xs) ys (suc n) h = get-append_left xs ys n (omega arith)
-
-get-append_right : {X : Type 0} (xs ys : List X) (n : ℕ) → slice_get (xs ++ ys) (length xs + n) ≡ slice_get ys n
-get-append_right [] ys n = let e : 0 + n ≡ n = omega arith in ap (slice_get ys) e
-get-append_right (x ∷ xs) ys n =
-    let e : length (x ∷ xs) + n ≡ suc (length xs + n) = omega arith in
-    ap (slice_get (x ∷ (xs ++ ys))) e ∙ get-append_right xs ys n
-
-below_length : {X : Type 0} (xs : List X) (n : ℕ) (x : X) → slice_get xs n ≡ Some x → n < length xs
-below_length [] n x h = cc
-below_length (y ∷ xs) zero x h = omega arith
-below_length (y ∷ xs) (suc n) x h = let ih = below_length xs n x h in omega (arith, ih)
 
 -- the lengths of the first m pieces from a on, together
 abbrev total : {X : Type 0} → (ℕ → List X) → ℕ → ℕ → ℕ
@@ -51,14 +37,14 @@ at_piece f a (suc n) zero j h g =
     let e : a + 0 ≡ a = omega arith in
     let from_zero : 0 + j ≡ j = omega arith in
     ap (slice_get (f a ++ flat_map f (range_with_len (a + 1) n))) from_zero
-    ∙ get-append_left (f a) (flat_map f (range_with_len (a + 1) n)) j (subst (λ b. j < length (f b)) e g)
+    ∙ slice_get-append_left (f a) (flat_map f (range_with_len (a + 1) n)) j (subst (λ b. j < length (f b)) e g)
     ∙ ap (λ b. slice_get (f b) j) (sym e)
 at_piece f a (suc n) (suc m) j h g =
     let e : a + 1 + m ≡ a + suc m = omega arith in
     let front : total f a (suc m) ≡ length (f a) + total f (a + 1) m = total_front f a m in
     let place : total f a (suc m) + j ≡ length (f a) + (total f (a + 1) m + j) = omega (arith, front) in
     ap (slice_get (f a ++ flat_map f (range_with_len (a + 1) n))) place
-    ∙ get-append_right (f a) (flat_map f (range_with_len (a + 1) n)) (total f (a + 1) m + j)
+    ∙ slice_get-append_right (f a) (flat_map f (range_with_len (a + 1) n)) (total f (a + 1) m + j)
     ∙ at_piece f (a + 1) n m j (omega arith) (subst (λ b. j < length (f b)) (sym e) g)
     ∙ ap (λ b. slice_get (f b) j) e
 
@@ -137,4 +123,4 @@ at_index f c h =
     ∙ ap (λ (p : ℕ × ℕ × ℕ). let d : Triple = record { v = p.0; k = p.1; t = p.2 } in Some d) (λ i. (back i, here i, last i))
 
 pub index_below : (f : Top) (c : Triple) → InFrame f c → index_of f c < size_of f
-index_below f c h = subst (λ n. index_of f c < n) (size_is f) (below_length (cells_of f) (index_of f c) c (at_index f c h))
+index_below f c h = subst (λ n. index_of f c < n) (size_is f) (slice_get-inside (cells_of f) (index_of f c) c (at_index f c h))

@@ -1,16 +1,13 @@
 -- A point put behind those in an array, and the search for one.
-use Rattle.std.proofs.Common.{◌≡◌, ℕ, suc, ◌+◌, ◌-◌, ◌<◌, ◌≤◌, true, eqb, List, [], ◌∷◌, ◌++◌, length, take, sym, ap, ◌∙◌, subst, arith, inl, inr, ⊎_elim}
+use Rattle.std.proofs.Common.{◌≡◌, ℕ, suc, ◌+◌, ◌-◌, ◌<◌, true, eqb, List, [], ◌∷◌, ◌++◌, length, take, sym, ap}
+use Rattle.std.proofs.Common.{◌∙◌, subst, arith, inl, inr, ⊎_elim}
 use Rattle.std.proofs.Math.ListN.{set, replicate}
 use Rattle.std.proofs.lemmas.Bool.{eqb-true, eq-eqb, or_cases, or_left, or_right, false≢true}
 use Rattle.std.proofs.lemmas.List.{take_more_set, length-take-le, set_at, length-set, append_assoc}
 use Rattle.std.specs.List.{list_any}
 use Rattle.lj_base.specs.Blocks.{AllBelow, Ascends, Has}
 use Rattle.lj_base.specs.Padding.{Lies}
-
--- a point above all others, put behind them
-pub Ascends-push : (lo v : ℕ) (xs : List ℕ) (p : ℕ) → lo ≤ p → p < v → AllBelow p xs → Ascends lo v xs → Ascends lo v (xs ++ p ∷ [])
-Ascends-push lo v [] p from below all h = (from, below, tt)
-Ascends-push lo v (x ∷ xs) p from below all h = (h.0, h.1, Ascends-push (suc x) v xs p (omega (arith, all.0)) below all.1 h.2)
+use Rattle.lj_base.proofs.Ascending.{Ascends-narrow, Ascends-push}
 
 pub Lies-push : (size n : ℕ) (array : List ℕ) (p : ℕ) → p < 99 → AllBelow p (take n array) → n < size → Lies size n array → Lies size (n + 1) (set array n p)
 Lies-push size n array p below all room h =
@@ -23,7 +20,7 @@ Lies-push size n array p below all room h =
       short = omega arith;
       narrow = h.narrow;
       size_is = length-set array n p ∙ h.size_is;
-      ascends = subst (Ascends 0 99) (sym front) (Ascends-push 0 99 (take n array) p (omega arith) below all h.ascends);
+      ascends = subst (Ascends 0 99) (sym front) (Ascends-push 0 p 99 (take n array) (omega arith) below (Ascends-narrow 0 99 p (take n array) h.ascends all));
       padded = ap (λ xs. set xs n p) split ∙ set_at (take n array) 0 (replicate (size - (n + 1)) 0) p n count
           ∙ sym (append_assoc (take n array) (p ∷ []) (replicate (size - (n + 1)) 0))
           ∙ ap (λ xs. xs ++ replicate (size - (n + 1)) 0) (sym front);

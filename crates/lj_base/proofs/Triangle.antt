@@ -1,5 +1,6 @@
 -- A table whose rows follow each other as those of the triangle has the binomials.
-use Rattle.std.proofs.Common.{◌≡◌, ℕ, zero, suc, ◌+◌, ◌<◌, ◌≤◌, true, List, [], ◌∷◌, length, get_or, refl, ap, ◌∙◌, subst, arith, add_comm}
+use Rattle.std.proofs.Common.{◌≡◌, ℕ, zero, suc, ◌+◌, ◌<◌, ◌≤◌, true, List, [], ◌∷◌, length, get_or, refl, ap, ◌∙◌}
+use Rattle.std.proofs.Common.{subst, arith, add_comm}
 use Rattle.std.proofs.Common.{◌^◌, ltb, lit<}
 use Rattle.std.proofs.lemmas.Bool.{and_parts, eqb-true, false≢true, ltb-true}
 use Rattle.std.specs.List.{list_all}

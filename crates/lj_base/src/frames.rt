@@ -1,4 +1,5 @@
 ghost use Rattle.std.specs.Prelude.{◌≡◌, ℕ, ◌+◌, ◌-◌, ◌*◌, ◌<◌, ◌≤◌, ◌↔◌, IsTrue, Some, length, min, slice_get};
+ghost use Rattle.lj_base.specs.Bounds.{at_cell};
 ghost use Rattle.lj_base.specs.Frames.{InFrame, before_k, cells_of, index_of, size_of, up_to_v};
 
 use crate::cells::Cell;
@@ -68,6 +69,15 @@ impl Frame {
         let top = self.top;
         let (v, place) = layer_at(top, i);
         row_at(top, v, place)
+    }
+
+    /// The number of a cell in a list that has one for each cell of the frame, in the order of `index`.
+    pub fn at_cell(&self, numbers: &[u64], c: Cell) -> u64
+        requires inside { InFrame self.now c }
+        requires count { length numbers.now ≡ size_of self.now }
+        ensures { result ≡ at_cell self.now numbers.now c }
+    {
+        numbers[self.index(c) as usize]
     }
 }
 

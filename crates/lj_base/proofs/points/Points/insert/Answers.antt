@@ -1,7 +1,8 @@
 use Rattle.std.proofs.Common.{◌≡◌, ◌<◌, ◌∙◌, ◌⊎◌, ◌↔◌, ◌≤◌, ◌+◌, Ok, Err, subst, refl, ap, arith, length, take}
 use Rattle.lj_base.specs.Blocks.{Has}
 use Rattle.lj_base.specs.Padding.{count_back}
-use Rattle.lj_base.proofs.Inserted.{placed, take-moved, Lies-moved, Has-with_point, lacks, length-with_point, with_point}
+use Rattle.lj_base.proofs.Inserted.{placed, take-moved, Lies-moved, Has-with_point, lacks, length-with_point}
+use Rattle.lj_base.proofs.Inserted.{with_point}
 use Rattle.lj_base.proofs.points.Points.insert.Goals as goal
 
 pub returns-in_default-clause-there : goal.returns-in_default-clause-there
