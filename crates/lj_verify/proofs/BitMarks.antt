@@ -1,11 +1,13 @@
 -- The bits of words, and marks that are put one after another.
-use Rattle.std.proofs.Common.{◌≡◌, ◌≢◌, ◌⊎◌, ◌↔◌, inl, inr, ⊎_elim, ℕ, suc, ◌+◌, ◌-◌, ◌*◌, ◌/◌, ◌%◌, ◌^◌, ◌<◌, ◌≤◌, List, length, get_or, bit_or, refl, sym, ap, ◌∙◌, subst, arith}
+use Rattle.std.proofs.Common.{◌≡◌, ◌≢◌, ◌⊎◌, ◌↔◌, inl, inr, ⊎_elim, ℕ, suc, ◌+◌, ◌-◌, ◌*◌, ◌/◌, ◌%◌, ◌^◌, ◌<◌, ◌≤◌}
+use Rattle.std.proofs.Common.{List, length, get_or, bit_or, refl, sym, ap, ◌∙◌, subst, arith}
 use Rattle.std.proofs.Math.ListN.{set}
 use Rattle.std.proofs.Math.Nat.{div-div-eq-div-mul}
 use Rattle.std.proofs.lemmas.Nat.{pow-add, pow_pos}
 use Rattle.std.proofs.lemmas.Bool.{cases_eq, cases_lt}
 use Rattle.std.proofs.lemmas.List.{length-set, get_or-set_same, get_or-set_other}
-use Rattle.std.proofs.lemmas.Nat.Bits.{bit_at_or, bit_at-lt, bit_at_above, bit_at_cat_low, bit_at_cat_high, bit_at-zero, bit_at-suc, bit_at_set_same, bit_at_set_other}
+use Rattle.std.proofs.lemmas.Nat.Bits.{bit_at_or, bit_at-lt, bit_at_above, bit_at_cat_low, bit_at_cat_high, bit_at-zero}
+use Rattle.std.proofs.lemmas.Nat.Bits.{bit_at-suc, bit_at_set_same, bit_at_set_other}
 use Rattle.std.specs.Int.{bit_at, w64}
 use Rattle.lj_verify.specs.Marks.{IsAtBit, IsAtPoint, IsIn, Marks}
 
@@ -20,13 +22,14 @@ or_cases a b i =
     )
 
 -- nothing is marked
-pub marks_none : (start : ℕ) (words : List ℕ) (P : ℕ → Type 0) → ((r : ℕ) → 64 * start ≤ r → r < 64 * (start + length words) → P r → ⊥) → Marks start words words P
+pub marks_none : (start : ℕ) (words : List ℕ) (P : ℕ → Type 0)
+    → ((r : ℕ) → 64 * start ≤ r → r < 64 * (start + length words) → P r → ⊥) → Marks start words words P
 marks_none start words P none = record {
   count = refl;
   each = λ r low high. (λ h. inl h, ⊎_elim (λ h. h) (λ p. absurd (none r low high p)));
 }
 
--- the same ranks, said in another way
+-- the ranks, by another fact that holds for just these
 pub marks_same : (start : ℕ) (a b : List ℕ) (P R : ℕ → Type 0) → Marks start a b P
     → ((r : ℕ) → P r → R r) → ((r : ℕ) → 64 * start ≤ r → r < 64 * (start + length a) → R r → P r) → Marks start a b R
 marks_same start a b P R h to from = record {
@@ -46,7 +49,8 @@ marks_then start a b c P Q R h g left right cases = record {
       let one = h.each r low high in
       let two = g.each r low (subst (λ n. r < 64 * (start + n)) (sym h.count) high) in (
         λ m. ⊎_elim (λ mid. ⊎_elim (λ old. inl old) (λ p. inr (left r p)) (one.0 mid)) (λ q. inr (right r q)) (two.0 m),
-        ⊎_elim (λ old. two.1 (inl (one.1 (inl old)))) (λ rr. ⊎_elim (λ p. two.1 (inl (one.1 (inr p)))) (λ q. two.1 (inr q)) (cases r rr)),
+        ⊎_elim (λ old. two.1 (inl (one.1 (inl old))))
+            (λ rr. ⊎_elim (λ p. two.1 (inl (one.1 (inr p)))) (λ q. two.1 (inr q)) (cases r rr)),
       );
 }
 
@@ -65,14 +69,16 @@ marks_word start place bits words from inside =
           (λ same.
           let at : r / 64 - start ≡ place - start = ap (λ n. n - start) same in
           let word : get_or new (r / 64 - start) 0 ≡ bit_or (get_or words (r / 64 - start) 0) bits =
-          ap (λ n. get_or new n 0) at ∙ get_or-set_same words (place - start) _ 0 inside ∙ ap (λ n. bit_or (get_or words n 0) bits) (sym at) in
+          ap (λ n. get_or new n 0) at ∙ get_or-set_same words (place - start) _ 0 inside ∙ ap
+          (λ n. bit_or (get_or words n 0) bits) (sym at) in
           let cases = or_cases (get_or words (r / 64 - start) 0) bits (r % 64) in (
             λ m. ⊎_elim (λ old. inl old) (λ b. inr (same, b)) (cases.0 (subst (λ w. bit_at w (r % 64) ≡ 1) word m)),
             λ h. subst (λ w. bit_at w (r % 64) ≡ 1) (sym word) (cases.1 (⊎_elim (λ old. inl old) (λ b. inr b.1) h)),
           ))
           (λ other.
           let differ : r / 64 - start ≢ place - start = λ e. other (omega arith) in
-          let word : get_or new (r / 64 - start) 0 ≡ get_or words (r / 64 - start) 0 = get_or-set_other words (place - start) (r / 64 - start) _ 0 differ in (
+          let word : get_or new (r / 64 - start) 0 ≡ get_or words (r / 64 - start) 0 = get_or-set_other words
+          (place - start) (r / 64 - start) _ 0 differ in (
             λ m. inl (subst (λ w. bit_at w (r % 64) ≡ 1) word m),
             ⊎_elim (λ old. subst (λ w. bit_at w (r % 64) ≡ 1) (sym word) old) (λ b. absurd (other b.0)),
           ))
@@ -108,21 +114,31 @@ pub low_word : (rank bits r : ℕ) → IsInWord (rank / 64) (bits * 2 ^ (rank % 
 low_word rank bits r h =
     let place = h.0 in
     ⊎_elim
-    (λ before. absurd (let none = shifted_below bits (rank % 64) (r % 64) (omega arith) before in let one = h.1 in omega (arith, none, one)))
-    (λ from. (r % 64 - rank % 64, omega arith, sym (shifted_from bits (rank % 64) (r % 64) (omega arith) from) ∙ h.1, omega arith))
+    (λ before. absurd (let none =
+    shifted_below bits (rank % 64) (r % 64) (omega arith) before in let one = h.1 in omega (arith, none, one)))
+    (λ from. (
+      r % 64 - rank % 64,
+      omega arith,
+      sym (shifted_from bits (rank % 64) (r % 64) (omega arith) from)
+          ∙ h.1,
+      omega arith,
+    ))
     (cases_lt (r % 64) (rank % 64))
 
-pub high_word : (rank bits r : ℕ) → bits < 2 ^ 64 → IsInWord (rank / 64 + 1) (bits / 2 / 2 ^ (63 - rank % 64)) r → IsAtBit rank bits r
+pub high_word : (rank bits r : ℕ) → bits < 2 ^ 64 → IsInWord (rank / 64 + 1) (bits / 2 / 2 ^ (63 - rank % 64)) r
+    → IsAtBit rank bits r
 high_word rank bits r fits h =
     let place = h.0 in
-    let bit : bit_at bits (64 - rank % 64 + r % 64) ≡ 1 = sym (shifted_out bits (rank % 64) (r % 64) (omega arith)) ∙ h.1 in
+    let bit : bit_at bits (64 - rank % 64 + r % 64) ≡ 1 = sym (shifted_out bits (rank % 64) (r % 64) (omega arith))
+    ∙ h.1 in
     ⊎_elim
     (λ below. (64 - rank % 64 + r % 64, below, bit, omega arith))
     (λ past. absurd (let none = bit_at_above bits 64 (64 - rank % 64 + r % 64) fits past in omega (arith, none, bit)))
     (cases_lt (64 - rank % 64 + r % 64) 64)
 
 pub two_words : (rank bits r : ℕ) → IsAtBit rank bits r
-    → IsInWord (rank / 64) (bits * 2 ^ (rank % 64) % 2 ^ 64) r ⊎ IsInWord (rank / 64 + 1) (bits / 2 / 2 ^ (63 - rank % 64)) r
+    → IsInWord (rank / 64) (bits * 2 ^ (rank % 64) % 2 ^ 64) r ⊎ IsInWord (rank / 64 + 1)
+    (bits / 2 / 2 ^ (63 - rank % 64)) r
 two_words rank bits r h =
     let p = h.0 in
     let few = h.1 in
@@ -140,14 +156,17 @@ two_words rank bits r h =
 
 -- bits that are marked from a rank on
 pub marks_bits : (start rank bits : ℕ) (a b c : List ℕ) → bits < 2 ^ 64
-    → Marks start a b (IsInWord (rank / 64) (bits * 2 ^ (rank % 64) % 2 ^ 64)) → Marks start b c (IsInWord (rank / 64 + 1) (bits / 2 / 2 ^ (63 - rank % 64)))
+    → Marks start a b (IsInWord (rank / 64) (bits * 2 ^ (rank % 64) % 2 ^ 64))
+    → Marks start b c (IsInWord (rank / 64 + 1) (bits / 2 / 2 ^ (63 - rank % 64)))
     → Marks start a c (IsAtBit rank bits)
 marks_bits start rank bits a b c fits one two =
-    marks_then start a b c (IsInWord (rank / 64) (bits * 2 ^ (rank % 64) % 2 ^ 64)) (IsInWord (rank / 64 + 1) (bits / 2 / 2 ^ (63 - rank % 64))) (IsAtBit rank bits)
+    marks_then start a b c (IsInWord (rank / 64) (bits * 2 ^ (rank % 64) % 2 ^ 64))
+    (IsInWord (rank / 64 + 1) (bits / 2 / 2 ^ (63 - rank % 64))) (IsAtBit rank bits)
     one two (λ r. low_word rank bits r) (λ r. high_word rank bits r fits) (λ r. two_words rank bits r)
 
 -- the points of both halves
-pub marks_points : (start rank low high : ℕ) (a b c : List ℕ) → Marks start a b (IsAtBit rank low) → Marks start b c (IsAtBit (rank + 64) high)
+pub marks_points : (start rank low high : ℕ) (a b c : List ℕ) → Marks start a b (IsAtBit rank low)
+    → Marks start b c (IsAtBit (rank + 64) high)
     → Marks start a c (IsAtPoint rank low high)
 marks_points start rank low high a b c one two =
     marks_then start a b c (IsAtBit rank low) (IsAtBit (rank + 64) high) (IsAtPoint rank low high) one two
@@ -165,7 +184,8 @@ marks_points start rank low high a b c one two =
     h.1)
 
 -- where no point is 64 or more
-pub marks_low_points : (start rank low high : ℕ) (a b : List ℕ) → high ≡ 0 → Marks start a b (IsAtBit rank low) → Marks start a b (IsAtPoint rank low high)
+pub marks_low_points : (start rank low high : ℕ) (a b : List ℕ) → high ≡ 0 → Marks start a b (IsAtBit rank low)
+    → Marks start a b (IsAtPoint rank low high)
 marks_low_points start rank low high a b none one =
     marks_points start rank low high a b b one
     (marks_none start b (IsAtBit (rank + 64) high) (λ r from to h.
@@ -174,7 +194,8 @@ marks_low_points start rank low high a b none one =
     omega (arith, zero_bit, bit)))
 
 -- one more point
-pub in_low : (low high point : ℕ) → point < 64 → (p : ℕ) → IsIn (bit_or low (1 * 2 ^ point % 2 ^ 64)) high p ↔ (IsIn low high p ⊎ (point ≡ p))
+pub in_low : (low high point : ℕ) → point < 64 → (p : ℕ)
+    → IsIn (bit_or low (1 * 2 ^ point % 2 ^ 64)) high p ↔ (IsIn low high p ⊎ (point ≡ p))
 in_low low high point below p =
     ⊎_elim
     (λ same.
@@ -188,13 +209,15 @@ in_low low high point below p =
     ))
     (cases_eq point p)
 
-pub in_high : (low high point : ℕ) → 64 ≤ point → point < 99 → (p : ℕ) → IsIn low (bit_or high (1 * 2 ^ (point - 64) % 2 ^ 64)) p ↔ (IsIn low high p ⊎ (point ≡ p))
+pub in_high : (low high point : ℕ) → 64 ≤ point → point < 99 → (p : ℕ)
+    → IsIn low (bit_or high (1 * 2 ^ (point - 64) % 2 ^ 64)) p ↔ (IsIn low high p ⊎ (point ≡ p))
 in_high low high point from below p =
     let within : point - 64 < 64 = omega arith in
     ⊎_elim
     (λ same.
     let back : p - 64 ≡ point - 64 = omega arith in
-    let bit = ap (bit_at (bit_or high (1 * 2 ^ (point - 64) % 2 ^ 64))) back ∙ bit_at_set_same w64 high (point - 64) within in
+    let bit = ap (bit_at (bit_or high (1 * 2 ^ (point - 64) % 2 ^ 64))) back ∙ bit_at_set_same w64 high
+    (point - 64) within in
     (λ h. inr same, λ h. inr (omega arith, omega arith, bit)))
     (λ other. (
       ⊎_elim (λ h. inl (inl h))

@@ -1,15 +1,18 @@
 -- Strings of ranks: those of the sets of a block below one of its points come first.
-use Rattle.std.proofs.Common.{◌≡◌, ◌↔◌, inl, inr, ⊎_elim, ℕ, zero, suc, ◌+◌, ◌-◌, ◌*◌, ◌/◌, ◌%◌, ◌<◌, ◌≤◌, List, [], ◌∷◌, ◌++◌, length, take, drop, get_or, refl, sym, ap, ◌∙◌, subst, arith}
+use Rattle.std.proofs.Common.{◌≡◌, ◌↔◌, inl, inr, ⊎_elim, ℕ, zero, suc, ◌+◌, ◌-◌, ◌*◌, ◌/◌, ◌%◌, ◌<◌, ◌≤◌, List, []}
+use Rattle.std.proofs.Common.{◌∷◌, ◌++◌, length, take, drop, get_or, sym, ap, ◌∙◌, subst, arith}
 use Rattle.std.proofs.lemmas.Bool.{cases_lt}
 use Rattle.std.proofs.lemmas.List.{length_push, take_all, take_at, get_or_past}
 use Rattle.std.specs.Int.{bit_at}
-use Rattle.lj_base.specs.Blocks.{Ascends, Has, Within}
+use Rattle.lj_base.specs.Blocks.{Ascends, Has}
 use Rattle.lj_base.specs.Colex.{choose}
 use Rattle.lj_rank.specs.Ranks.{rank_of}
-use Rattle.lj_rank.proofs.Ascending.{top_cases, Ascends-push, Has-below}
+use Rattle.lj_base.proofs.Ascending.{Ascends-before, Ascends-push, Has-below, Has-from, Has-from_Within}
+use Rattle.lj_base.proofs.Ascending.{Within-from_Has}
+use Rattle.lj_base.proofs.Ascending.{top_cases}
 use Rattle.lj_rank.proofs.Counting.{rank-below, rank-push}
-use Rattle.lj_rank.proofs.Places.{Ascends-before, take-by_last}
-use Rattle.lj_rank.proofs.Subsets.{Ascends-subset}
+use Rattle.lj_base.proofs.Lists.{take-by_last}
+use Rattle.lj_verify.proofs.Subsets.{Ascends-subset}
 use Rattle.lj_verify.specs.Marks.{IsAtPrefix, IsRankAmong, Marks}
 use Rattle.lj_verify.specs.Strings.{IsStringOf, words_for}
 use Rattle.std.proofs.lemmas.Nat.Bits.{bit_at-zero}
@@ -51,27 +54,21 @@ below_by_rank (suc v) p s h low =
     (cases_lt v p))
     s h low
 
-has_from : (lo v : ℕ) (b : List ℕ) (q : ℕ) → Ascends lo v b → Has b q → lo ≤ q
-has_from lo v [] q h has = absurd has
-has_from lo v (x ∷ b) q h (inl e) = let from = h.0 in omega arith
-has_from lo v (x ∷ b) q h (inr has) = let rest = has_from (suc x) v b q h.2 has in let from = h.0 in omega arith
-
-Has-take_more : (lo v : ℕ) (b : List ℕ) (i q : ℕ) → Ascends lo v b → i < length b → Has b q → q < get_or b i 0 → Has (take i b) q
+Has-take_more : (lo v : ℕ) (b : List ℕ) (i q : ℕ) → Ascends lo v b → i < length b → Has b q → q < get_or b i 0
+    → Has (take i b) q
 Has-take_more lo v [] i q h within has less = absurd has
 Has-take_more lo v (x ∷ b) zero q h within (inl e) less = absurd (omega arith)
-Has-take_more lo v (x ∷ b) zero q h within (inr has) less = absurd (let from = has_from (suc x) v b q h.2 has in omega arith)
+Has-take_more lo v (x ∷ b) zero q h within (inr has) less =
+    absurd (let from = Has-from (suc x) v q b h.2 has in omega arith)
 Has-take_more lo v (x ∷ b) (suc i) q h within (inl e) less = inl e
-Has-take_more lo v (x ∷ b) (suc i) q h within (inr has) less = inr (Has-take_more (suc x) v b i q h.2 (omega arith) has less)
+Has-take_more lo v (x ∷ b) (suc i) q h within (inr has) less =
+    inr (Has-take_more (suc x) v b i q h.2 (omega arith) has less)
 
 Has-take_less : (b : List ℕ) (i q : ℕ) → Has (take i b) q → Has b q
 Has-take_less b zero q has = absurd has
 Has-take_less [] (suc i) q has = absurd has
 Has-take_less (x ∷ b) (suc i) q (inl e) = inl e
 Has-take_less (x ∷ b) (suc i) q (inr has) = inr (Has-take_less b i q has)
-
-Within_map : (s b c : List ℕ) → ((p : ℕ) → Has s p → Has b p → Has c p) → Within s b → Within s c
-Within_map [] b c f h = tt
-Within_map (x ∷ s) b c f h = (f x (inl refl) h.0, Within_map s b c (λ p has. f p (inr has)) h.1)
 
 -- the ranks below the number of sets below a point of the block are those of the sets of the points before it
 pub among_before : (b : List ℕ) (i v s q : ℕ) → Ascends 0 99 b → i < length b → v ≡ get_or b i 0
@@ -83,20 +80,40 @@ among_before b i v s q k within is = (
       let at = h.1.2 in
       let low = h.0 in
       let count = ap (choose v) set.0.1 in
-      let below : Ascends 0 v t = below_by_rank 99 v t set.0.0 (omega (arith, at, low, count)) in
-      (t, (set.0, Within_map t b (take i b) (λ p has in_b. Has-take_more 0 99 b i p k within in_b (let less = Has-below 0 v p t below has in omega (arith, less, is))) set.1), at),
+      let below : Ascends 0 v t = below_by_rank 99 v t set.0.0 (omega (arith, at, low, count)) in (
+        t,
+        (
+          set.0,
+          Within-from_Has t (take i b)
+              (λ p has. Has-take_more 0 99 b i p k within (Has-from_Within t b set.1 p has)
+              (let less = Has-below 0 v p t below has in omega (arith, less, is))),
+        ),
+        at,
+      ),
   λ h.
       let t = h.0 in
       let set = h.1 in
       let at = h.2 in
-      let low : Ascends 0 v (take i b) = subst (λ p. Ascends 0 p (take i b)) (sym is) (Ascends-before 0 99 b i k within) in
+      let low : Ascends 0 v (take i b) = subst (λ p. Ascends 0 p (take i b)) (sym is)
+      (Ascends-before 0 99 b i k within) in
       let count = ap (choose v) set.0.1 in
-      let rank = rank-below v t (Ascends-subset v s (take i b) t low set) in
-      (omega (arith, at, rank, count), (t, (set.0, Within_map t (take i b) b (λ p has in_b. Has-take_less b i p in_b) set.1), at)),
+      let rank = rank-below v t (Ascends-subset v s (take i b) t low set) in (
+        omega (arith, at, rank, count),
+        (
+          t,
+          (
+            set.0,
+            Within-from_Has t b
+                (λ p has. Has-take_less b i p (Has-from_Within t (take i b) set.1 p has)),
+          ),
+          at,
+        ),
+      ),
 )
 
 -- the sets with one more point, by the prefix of the string
-pub marks_prefix : (start : ℕ) (y z b string : List ℕ) (i v s rest : ℕ) → Ascends 0 99 b → i < length b → v ≡ get_or b i 0 → Has b v → IsStringOf b s string
+pub marks_prefix : (start : ℕ) (y z b string : List ℕ) (i v s rest : ℕ) → Ascends 0 99 b → i < length b
+    → v ≡ get_or b i 0 → Has b v → IsStringOf b s string
     → Marks start y z (IsAtPrefix rest string (choose v s)) → Marks start y z (IsRankAmong (take i b) s rest)
 marks_prefix start y z b string i v s rest k within is has full h =
     let room = full.room v has in
@@ -115,61 +132,72 @@ marks_prefix start y z b string i v s rest k within is has full h =
     let low = back.0 in
     (q, low, (full.each q (omega (arith, low, room))).1 back.1, at))
 
-pub Has-get : (b : List ℕ) (i : ℕ) → i < length b → Has b (get_or b i 0)
-Has-get [] i within = absurd (omega arith)
-Has-get (x ∷ b) zero within = inl refl
-Has-get (x ∷ b) (suc i) within = inr (Has-get b i (omega arith))
-
 -- what was marked in words that were clear
-pub string_from_marks : (b zeros new : List ℕ) (v s : ℕ) → Ascends 0 v b → ((i : ℕ) → get_or zeros i 0 ≡ 0) → choose v s ≤ 64 * length zeros
+pub string_from_marks : (b zeros new : List ℕ) (v s : ℕ) → Ascends 0 v b → ((i : ℕ) → get_or zeros i 0 ≡ 0)
+    → choose v s ≤ 64 * length zeros
     → Marks 0 zeros new (IsRankAmong b s 0) → IsStringOf b s new
 string_from_marks b zeros new v s low clear room h =
     let long = h.count in
     record {
-      room = λ p has. let below = Has-below 0 v p b low has in omega (arith, room, long, choose_mono p v s (omega arith));
+      room =
+          λ p has. let below = Has-below 0 v p b low has in omega (arith, room, long, choose_mono p v s (omega arith));
       each = λ r inside.
           let first : r / 64 - 0 ≡ r / 64 = omega arith in
           let each = h.each r (omega arith) (omega (arith, long)) in
           let none = ap (λ n. bit_at n (r % 64)) (clear (r / 64 - 0)) ∙ bit_at-zero (r % 64) in (
-            λ m. ⊎_elim (λ old. absurd (omega (arith, old, none))) (λ p. p) (each.0 (subst (λ n. bit_at (get_or new n 0) (r % 64) ≡ 1) (sym first) m)),
+            λ m. ⊎_elim (λ old. absurd (omega (arith, old, none))) (λ p. p)
+                (each.0 (subst (λ n. bit_at (get_or new n 0) (r % 64) ≡ 1) (sym first) m)),
             λ p. subst (λ n. bit_at (get_or new n 0) (r % 64) ≡ 1) first (each.1 (inr p)),
           );
     }
 
 -- one piece more of the words
 pub marks_piece : (start done end : ℕ) (a x ys : List ℕ) (P : ℕ → Type 0) → done ≤ end → end ≤ length x
-    → Marks start a x (λ r. (r < 64 * (start + done)) × P r) → Marks (start + done) (take (end - done) (drop done x)) ys P
+    → Marks start a x (λ r. (r < 64 * (start + done)) × P r)
+    → Marks (start + done) (take (end - done) (drop done x)) ys P
     → Marks start a (put_mid done (end - done) x ys) (λ r. (r < 64 * (start + end)) × P r)
 marks_piece start done end a x ys P order within one two =
-    marks_then start a x (put_mid done (end - done) x ys) (λ r. (r < 64 * (start + done)) × P r) (IsInPart (start + done) (end - done) P) (λ r. (r < 64 * (start + end)) × P r)
+    marks_then start a x (put_mid done (end - done) x ys) (λ r. (r < 64 * (start + done)) × P r)
+    (IsInPart (start + done) (end - done) P) (λ r. (r < 64 * (start + end)) × P r)
     one (marks_part start done (end - done) x ys P (omega arith) two)
     (λ r h. let low = h.0 in (omega arith, h.1))
     (λ r h. let low = h.1 in (omega arith, h.2))
-    (λ r h. let high = h.0 in ⊎_elim (λ low. inl (low, h.1)) (λ from. inr (from, omega arith, h.1)) (cases_lt r (64 * (start + done))))
+    (λ r h. let high =
+    h.0 in ⊎_elim (λ low. inl (low, h.1)) (λ from. inr (from, omega arith, h.1)) (cases_lt r (64 * (start + done))))
 
-pub marks_no_piece : (start : ℕ) (words : List ℕ) (P : ℕ → Type 0) → Marks start words words (λ r. (r < 64 * (start + 0)) × P r)
-marks_no_piece start words P = marks_none start words (λ r. (r < 64 * (start + 0)) × P r) (λ r low high h. let below = h.0 in omega arith)
+pub marks_no_piece : (start : ℕ) (words : List ℕ) (P : ℕ → Type 0)
+    → Marks start words words (λ r. (r < 64 * (start + 0)) × P r)
+marks_no_piece start words P =
+    marks_none start words (λ r. (r < 64 * (start + 0)) × P r) (λ r low high h. let below = h.0 in omega arith)
 
-pub marks_all_pieces : (start done : ℕ) (a x : List ℕ) (P : ℕ → Type 0) → length x ≤ done → Marks start a x (λ r. (r < 64 * (start + done)) × P r) → Marks start a x P
+pub marks_all_pieces : (start done : ℕ) (a x : List ℕ) (P : ℕ → Type 0) → length x ≤ done
+    → Marks start a x (λ r. (r < 64 * (start + done)) × P r) → Marks start a x P
 marks_all_pieces start done a x P all h =
     let long = h.count in
     marks_same start a x (λ r. (r < 64 * (start + done)) × P r) P h (λ r p. p.1) (λ r low high p. (omega arith, p))
 
 -- the points of a block are below the one after its last
-pub ascends_to_last : (b : List ℕ) (n v : ℕ) → Ascends 0 99 b → n ≡ length b → 0 < n → v ≡ get_or b (n - 1) 0 → Ascends 0 (v + 1) b
+pub ascends_to_last : (b : List ℕ) (n v : ℕ) → Ascends 0 99 b → n ≡ length b → 0 < n → v ≡ get_or b (n - 1) 0
+    → Ascends 0 (v + 1) b
 ascends_to_last b n v k count some is =
     let split = take-by_last b n some (omega arith) in
     let all : take n b ≡ b = take_all n b (omega arith) in
-    let low : Ascends 0 v (take (n - 1) b) = subst (λ p. Ascends 0 p (take (n - 1) b)) (sym is) (Ascends-before 0 99 b (n - 1) k (omega arith)) in
-    subst (Ascends 0 (v + 1)) (ap (λ p. take (n - 1) b ++ p ∷ []) is ∙ sym split ∙ all) (Ascends-push 0 v (v + 1) (take (n - 1) b) (omega arith) (omega arith) low)
+    let low : Ascends 0 v (take (n - 1) b) = subst (λ p. Ascends 0 p (take (n - 1) b)) (sym is)
+    (Ascends-before 0 99 b (n - 1) k (omega arith)) in
+    subst (Ascends 0 (v + 1)) (ap (λ p. take (n - 1) b ++ p ∷ []) is ∙ sym split ∙ all)
+    (Ascends-push 0 v (v + 1) (take (n - 1) b) (omega arith) (omega arith) low)
 
 pub words_for-step : (v s : ℕ) → 0 < s → words_for v s ≡ (choose v s + 63) / 64 + words_for v (s - 1)
 words_for-step v zero some = absurd (omega arith)
-words_for-step v (suc s) some = let same : suc s - 1 ≡ s = omega arith in ap (λ n. (choose v (suc s) + 63) / 64 + words_for v n) (sym same)
+words_for-step v (suc s) some =
+    let same : suc s - 1 ≡ s = omega arith in ap (λ n. (choose v (suc s) + 63) / 64 + words_for v n) (sym same)
 
 -- the first words are those that were marked
-pub string_first : (b zeros new behind : List ℕ) (v s : ℕ) → Ascends 0 v b → ((i : ℕ) → i < length zeros → get_or zeros i 0 ≡ 0) → length zeros ≡ (choose v s + 63) / 64
-    → Marks 0 zeros new (IsRankAmong b s 0) → IsStringOf b s (take ((choose v s + 63) / 64) (new ++ behind))
-string_first b zeros new behind v s low clear long h =
-    let all : (i : ℕ) → get_or zeros i 0 ≡ 0 = λ i. ⊎_elim (λ inside. clear i inside) (λ past. get_or_past zeros i 0 past) (cases_lt i (length zeros)) in
-    subst (IsStringOf b s) (sym (take_at new behind ((choose v s + 63) / 64) (h.count ∙ long))) (string_from_marks b zeros new v s low all (omega (arith, long)) h)
+pub string_first : (b zeros new others : List ℕ) (v s : ℕ) → Ascends 0 v b
+    → ((i : ℕ) → i < length zeros → get_or zeros i 0 ≡ 0) → length zeros ≡ (choose v s + 63) / 64
+    → Marks 0 zeros new (IsRankAmong b s 0) → IsStringOf b s (take ((choose v s + 63) / 64) (new ++ others))
+string_first b zeros new others v s low clear long h =
+    let all : (i : ℕ) → get_or zeros i 0 ≡ 0 = λ i. ⊎_elim (λ inside. clear i inside)
+    (λ past. get_or_past zeros i 0 past) (cases_lt i (length zeros)) in
+    subst (IsStringOf b s) (sym (take_at new others ((choose v s + 63) / 64) (h.count ∙ long)))
+    (string_from_marks b zeros new v s low all (omega (arith, long)) h)

@@ -34,7 +34,7 @@ shifted_word shift upper lower i =
 abbrev pub IsBetween : ℕ → ℕ → List ℕ → ℕ → Type 0
 IsBetween place shift string r = (place < r / 64) × (r / 64 < place + length string)
     × (bit_at (bit_or (slice_index string (r / 64 - place) * 2 ^ shift % 2 ^ 64)
-        (slice_index string (r / 64 - place - 1) / 2 / 2 ^ (63 - shift))) (r % 64) ≡ 1)
+    (slice_index string (r / 64 - place - 1) / 2 / 2 ^ (63 - shift))) (r % 64) ≡ 1)
 
 -- the point is one of those below 64 that the one number has, or of those from 64 on that the other has
 abbrev pub IsIn : ℕ → ℕ → ℕ → Type 0

@@ -3,6 +3,7 @@
 
 mod bits;
 mod covering;
+mod laws;
 mod limits;
 mod pairs;
 mod pieces;
@@ -13,5 +14,6 @@ mod strings;
 mod workers;
 
 pub use covering::check;
+pub use laws::outcome_law;
 pub use plain::check_plain;
 pub use refusals::Refusal;

@@ -9,7 +9,9 @@ returns g c = record {
   each = λ r low high.
       let word : r / 64 < length c.args.words.now = omega arith in
       let found = (c.for_each_chunk_mut.ensures.by_index (r / 64) 0 word).1 in
-      let call : Marks found.start found.argument.now found.after_call.now (IsRankIn c.args.blocks.now c.args.t) = search (rules, found.call) in
-      marks_chunk found.start found.offset found.argument.now found.after_call.now c.args.words.now c.for_each_chunk_mut.new.s _ r
+      let call : Marks found.start found.argument.now found.after_call.now (IsRankIn c.args.blocks.now c.args.t) =
+      search (rules, found.call) in
+      marks_chunk found.start found.offset found.argument.now found.after_call.now c.args.words.now
+      c.for_each_chunk_mut.new.s _ r
       found.start_plus_offset found.offset_in_chunk found.old_element found.new_element call;
 }
