@@ -176,12 +176,12 @@ impl Source for MemSource {
         ensures gives { IfOk result (λ n. n ≡ min self.old.piece (min (length buf.new) (length self.old.left))) }
         ensures calls { self.new.calls ≡ one_more self.old.calls }
         ensures faults { self.new.faults ≡ (if is_err result then one_more self.old.faults else self.old.faults) }
-        ensures stays { OnErr result (self.new.left ≡ self.old.left) }
         ensures plan { (self.new.fails ≡ self.old.fails) × (self.new.piece ≡ self.old.piece) }
 
         ensures count { IfOk result (λ n. n ≤ length buf.new) }
         ensures bytes { IfOk result (λ n. Consumes (Some self.old.left) (Some self.new.left) (take n buf.new)) }
         ensures end { result ≡ Ok 0 → 0 < length buf.new → IsAtEnd (Some self.new.left) }
+        ensures nothing { OnErr result (Keeps (Some self.old.left) (Some self.new.left)) }
         ensures quiet { OnOk result (self.new.faults ≡ self.old.faults) }
         ensures failed { OnErr result (Rose self.old.faults self.new.faults) }
         ensures never_falls { self.old.faults ≤ self.new.faults }
