@@ -1,4 +1,6 @@
 pub mod Cutting
+pub mod Joined
+pub mod PlainWords
 pub mod LineLaws
 pub mod Sending
 pub mod Spelling
