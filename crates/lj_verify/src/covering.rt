@@ -3,7 +3,7 @@ ghost use Rattle.lj_base.specs.Blocks.{AreBlocks, Covers};
 ghost use Rattle.lj_verify.specs.Limits.{IsWithinLimits};
 ghost use Rattle.lj_verify.specs.Refusals.{IsRefused};
 
-use crate::limits::within_limits;
+use crate::limits::{MAX_WORKERS, within_limits};
 use crate::refusals::Refusal;
 use crate::sizes::best_size;
 use crate::workers::mark_map;
@@ -26,7 +26,7 @@ pub fn check<R: Threads + Sync>(
 ) -> Result<Design, Refusal>
     requires blocks { AreBlocks cell.v cell.k blocks.items }
     requires some_workers { 1 ≤ workers }
-    requires few_workers { workers ≤ 64 }
+    requires few_workers { workers ≤ MAX_WORKERS }
     ensures ok { IfOk result (λ design. design ≡ record { cell = cell; blocks = blocks.items }) }
     ensures within { IfOk result (λ _. IsWithinLimits cell (length blocks.items)) }
     ensures covers { IfOk result (λ _. Covers blocks.items cell) }

@@ -11,9 +11,12 @@ mod plain;
 mod refusals;
 mod sizes;
 mod strings;
+mod texts;
 mod workers;
 
 pub use covering::check;
 pub use laws::outcome_law;
+pub use limits::MAX_WORKERS;
 pub use plain::check_plain;
 pub use refusals::Refusal;
+pub use texts::{put_points, put_refusal};
