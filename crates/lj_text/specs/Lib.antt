@@ -1,4 +1,4 @@
-pub mod Causes
+pub mod Inputs
 pub mod Fields
 pub mod Lines
 pub mod Numbers

@@ -14,7 +14,7 @@ pub use fields::{
     cut_back, put, put_field, put_joined, put_named, put_number, put_number_field,
     put_number_fields,
 };
-pub use input::{ReadFail, read_all};
+pub use input::{PIECE, ReadFail, read_all};
 pub use laws::{decimal_law, fields_law, line_order_law, lines_law, tokens_law, words_law};
 pub use lines::{Line, Lines, after_line};
 pub use numbers::{NotNumber, number};
