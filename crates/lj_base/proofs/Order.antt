@@ -6,6 +6,8 @@ use Rattle.std.proofs.Common.{⊎_elim}
 use Rattle.std.proofs.lemmas.Bool.{cases_lt}
 use Rattle.std.specs.List.{flat_map, range_with_len, slice_get}
 use Rattle.lj_base.specs.Cells.{IsCell, Triple}
+use Rattle.std.proofs.Common.{◌*◌}
+use Rattle.lj_base.proofs.Counting.{up_to_le}
 use Rattle.lj_base.proofs.Lists.{slice_get-append_left, slice_get-append_right, slice_get-inside}
 use Rattle.lj_base.specs.Frames.{Top, InFrame, IsBefore, cells_with, cells_of, cells_before_k, cells_before_v, before_k, up_to_v}
 use Rattle.lj_base.specs.Frames.{index_of, key, size_of}
@@ -129,6 +131,12 @@ at_index f c h =
 
 pub index_below : (f : Top) (c : Triple) → InFrame f c → index_of f c < size_of f
 index_below f c h = subst (λ n. index_of f c < n) (size_is f) (slice_get-inside (cells_of f) (index_of f c) c (at_index f c h))
+
+-- no frame has more cells
+pub size_small : (f : Top) → IsCell f.top → size_of f ≤ 99 * (26 * 9)
+size_small f top =
+    let layers = up_to_le f.top.k f.top.t f.top.v (omega (arith, top)) (omega (arith, top)) in
+    omega (arith, layers, top)
 
 up_to_up : (k t v w : ℕ) → v ≤ w → up_to_v k t v ≤ up_to_v k t w
 up_to_up k t v zero h = let e : v ≡ zero = omega arith in omega (arith, ap (up_to_v k t) e)

@@ -1,4 +1,4 @@
-ghost use Rattle.std.specs.Prelude.{◌≡◌, ℕ, ◌+◌, ◌-◌, ◌*◌, ◌<◌, ◌≤◌, ◌↔◌, IsTrue, Some, length, min, slice_get};
+ghost use Rattle.std.specs.Prelude.{◌≡◌, ℕ, ◌+◌, ◌-◌, ◌*◌, ◌<◌, ◌≤◌, ◌↔◌, IsTrue, Some, length, min, slice_get, slice_index};
 ghost use Rattle.lj_base.specs.Bounds.{at_cell};
 ghost use Rattle.lj_base.specs.Frames.{InFrame, before_k, cells_before_k, cells_before_v, cells_of, index_of, size_of, up_to_v};
 
@@ -81,6 +81,13 @@ impl Frame {
         before(self.top.t as u64, k as u64)
     }
 
+    /// `cells_before_k` of each `k` up to 26.
+    pub fn row_offsets(&self) -> [usize; 27]
+        ensures { (k : ℕ) → k ≤ 26 → slice_index result k ≡ cells_before_k self.now k }
+    {
+        offsets_up_to(self.top.t as usize)
+    }
+
     /// The cell at a place. It takes about as many steps as the frame has numbers v and k.
     pub fn cell(&self, i: u64) -> Cell
         requires { i < size_of self.now }
@@ -101,6 +108,20 @@ impl Frame {
     {
         numbers[self.index(c) as usize]
     }
+}
+
+// For each k up to 26, the number of cells with one v whose k is below it.
+fn offsets_up_to(t: usize) -> [usize; 27]
+    requires { t ≤ 8 }
+    ensures { (k : ℕ) → k ≤ 26 → slice_index result k ≡ before_k t k }
+{
+    let mut offsets = [0; 27];
+    let mut total = 0;
+    for k in 0..27 {
+        offsets[k] = total;
+        total += k.min(t) + 1;
+    }
+    offsets
 }
 
 // The v of the cell at a place, and the cell's place among those with that v.

@@ -8,11 +8,12 @@ ghost use Rattle.lj_base.specs.Frames.{InFrame, IsBefore, Top, cells_before_k, c
 
 use crate::limits::COST_LIMIT;
 
-/// On the cells of a frame the index is one to one, and below the frame's size. It is the number of cells with a
+/// On the cells of a frame the index is one to one, and below the frame's size, which is small. It is the number of cells with a
 /// lesser `v`, the number of those with the same `v` and a lesser `k`, and `t`, together.
 pub fn index_law()
     ensures below { (f : Top) (c : Triple) → InFrame f c → index_of f c < size_of f }
     ensures one_to_one { (f : Top) (c d : Triple) → InFrame f c → InFrame f d → index_of f c ≡ index_of f d → c ≡ d }
+    ensures size { (f : Top) → IsCell f.top → size_of f ≤ 99 * (26 * 9) }
     ensures offsets { (f : Top) (c : Triple) → index_of f c ≡ cells_before_v f c.v + cells_before_k f c.k + c.t }
 {}
 
