@@ -1,5 +1,5 @@
 use Rattle.std.proofs.Common.{refl}
-use Rattle.lj_base.proofs.Order.{index_below, one_index, size_small}
+use Rattle.lj_base.proofs.CellOrder.{index_below, one_index, size_small}
 use Rattle.lj_base.proofs.laws.index_law.Goals as goal
 
 pub returns : goal.returns
