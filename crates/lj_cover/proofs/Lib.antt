@@ -17,3 +17,4 @@ pub mod Pricing
 pub mod Reading
 pub mod Leasts
 pub mod Growing
+pub mod RowsOfUploads

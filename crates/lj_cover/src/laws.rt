@@ -1,15 +1,16 @@
 //! The laws of the rules. Each function does nothing: its contract is the law.
 
-ghost use Rattle.std.specs.Prelude.{◌≡◌, ℕ, ◌+◌, ◌-◌, ◌<◌, ◌≤◌, ◌⊎◌, ◌↔◌, List, map, length};
-ghost use Rattle.std.specs.List.{AllByRecursion, AllZip, Contains, flat_map};
-ghost use Rattle.lj_base.specs.Blocks.{AreBlocks, Covers};
+ghost use Rattle.std.specs.Prelude.{◌≡◌, ℕ, ◌+◌, ◌-◌, ◌<◌, ◌≤◌, ◌⊎◌, ◌↔◌, List, ◌++◌, map, length};
+ghost use Rattle.std.specs.List.{AllByRecursion, AllZip, Contains, filter, flat_map};
+ghost use Rattle.lj_base.specs.Blocks.{AreBlocks, Ascends, Covers};
 ghost use Rattle.lj_base.specs.Cells.{IsCell, Triple};
 ghost use Rattle.lj_base.specs.Colex.{choose, sets};
 ghost use Rattle.lj_base.specs.Frames.{InFrame, Top};
+ghost use Rattle.lj_base.specs.declared.Row.{Row};
 ghost use Rattle.lj_cover.specs.BlockLists.{add_blocks, ceil_div, cut_sizes, derived_blocks, derived2_blocks, drop_blocks, grow_blocks, induced_blocks, one_block, product_blocks, run_blocks};
 ghost use Rattle.lj_cover.specs.Rules.{Condition, Induced, Part, Rule, Splits, Upload, rule_cell, rule_children, part_cells, rule_blocks, rule_cost, triple};
 ghost use Rattle.lj_cover.specs.Derivations.{Derivable, IsDerivation, IsLeast, IsSound, Tree, tree_cost, expand, root_cell};
-ghost use Rattle.lj_cover.specs.Instances.{AreUploads, IsInstance, ReadSomewhere, Reads, price, cut_counts, row_price};
+ghost use Rattle.lj_cover.specs.Instances.{AreUploads, IsInstance, IsRowOf, ReadSomewhere, Reads, counts_at, cut_counts, has_row, price, row_price, rows_at, rows_from};
 ghost use Rattle.lj_cover.specs.Lower.{schonheim};
 
 /// One block covers where sets have no point or a block has every point.
@@ -100,6 +101,17 @@ pub fn price_by_row()
 pub fn price_grows()
     ensures at_least { (bounds : Triple → ℕ) (r : Rule) → Condition r → AllByRecursion (λ c. 1 ≤ bounds c) (rule_children r) → AllByRecursion (λ c. bounds c ≤ price bounds r) (rule_children r) }
     ensures grows { (r : Rule) (ms ns : List ℕ) → AllZip (λ m n. m ≤ n) ms ns → rule_cost r ms ≤ rule_cost r ns }
+{}
+
+/// The rows at a cell are those of the uploads that have one there: each has its upload's place, and the places ascend.
+pub fn rows_are_of_uploads()
+    ensures rows { (uploads : List Upload) (c : Triple) (r : Row) → Contains (rows_at uploads c) r ↔ IsRowOf uploads c r }
+    ensures places { (uploads : List Upload) (c : Triple)
+        → Ascends 0 (length uploads) (map (λ (r : Row). r.upload) (rows_at uploads c)) }
+    ensures counts { (uploads : List Upload) (c : Triple)
+        → counts_at uploads c ≡ map (λ (u : Upload). cut_counts c.v u.blocks) (filter (has_row c) uploads) }
+    ensures more { (uploads others : List Upload) (c : Triple)
+        → rows_at (uploads ++ others) c ≡ rows_at uploads c ++ rows_from (length uploads) others c }
 {}
 
 /// A cell reads just the children of its instances.
