@@ -8,7 +8,7 @@ use Rattle.lj_base.specs.Colex.{choose}
 use Rattle.lj_base.specs.Pascal.{sums_after, next_row, same_numbers, are_rows_from, first_row}
 
 -- m binomials of n from j on
-abbrev choices : ℕ → ℕ → ℕ → List ℕ
+abbrev pub choices : ℕ → ℕ → ℕ → List ℕ
 choices n j zero = []
 choices n j (suc m) = choose n j ∷ choices n (suc j) m
 
@@ -18,7 +18,7 @@ sums_after-choices n j (suc m) =
     ap (λ x. x ∷ sums_after (choose n (suc j)) (choices n (suc (suc j)) m)) (add_comm (choose n j) (choose n (suc j)))
     ∙ ap (λ xs. choose (suc n) (suc j) ∷ xs) (sums_after-choices n (suc j) m)
 
-next_row-choices : (n m : ℕ) → next_row (choices n 0 (suc m)) ≡ choices (suc n) 0 (suc m)
+pub next_row-choices : (n m : ℕ) → next_row (choices n 0 (suc m)) ≡ choices (suc n) 0 (suc m)
 next_row-choices n m = ap (λ xs. 1 ∷ xs) (sums_after-choices n 0 m)
 
 same_from_test : (xs ys : List ℕ) → same_numbers xs ys ≡ true → xs ≡ ys
@@ -29,7 +29,7 @@ same_from_test (x ∷ xs) (y ∷ ys) h =
     let parts = and_parts _ _ h in
     ap (λ z. z ∷ xs) (eqb-true x y parts.0) ∙ ap (λ zs. y ∷ zs) (same_from_test xs ys parts.1)
 
-get_or-choices : (n j m r : ℕ) → r < m → get_or (choices n j m) r 0 ≡ choose n (j + r)
+pub get_or-choices : (n j m r : ℕ) → r < m → get_or (choices n j m) r 0 ≡ choose n (j + r)
 get_or-choices n j zero r h = absurd (omega arith)
 get_or-choices n j (suc m) zero h = let e : j ≡ j + 0 = omega arith in ap (choose n) e
 get_or-choices n j (suc m) (suc r) h =

@@ -1,6 +1,6 @@
 ghost use Rattle.std.specs.Prelude.{◌≡◌, ℕ, ◌+◌, ◌-◌, ◌*◌, ◌<◌, ◌≤◌, ◌↔◌, IsTrue, Some, length, min, slice_get};
 ghost use Rattle.lj_base.specs.Bounds.{at_cell};
-ghost use Rattle.lj_base.specs.Frames.{InFrame, before_k, cells_of, index_of, size_of, up_to_v};
+ghost use Rattle.lj_base.specs.Frames.{InFrame, before_k, cells_before_k, cells_before_v, cells_of, index_of, size_of, up_to_v};
 
 use crate::cells::Cell;
 use std::marker::Model;
@@ -42,6 +42,7 @@ impl Frame {
     pub fn size(&self) -> u64
         ensures size { result ≡ size_of self.now }
         ensures cells { result ≡ length (cells_of self.now) }
+        ensures small { result ≤ 99 * (26 * 9) }
     {
         let top = self.top;
         up_to(top.k as u64, top.t as u64, top.v as u64)
@@ -51,12 +52,33 @@ impl Frame {
     pub fn index(&self, c: Cell) -> u64
         requires { InFrame self.now c }
         ensures index { result ≡ index_of self.now c }
+        ensures offsets { result ≡ cells_before_v self.now c.v + cells_before_k self.now c.k + c.t }
         ensures within { result < size_of self.now }
         ensures place { slice_get (cells_of self.now) result ≡ Some c }
     {
         let top = self.top;
         let (k, t) = (top.k as u64, top.t as u64);
         up_to(k, t, c.v as u64 - 1) + before(t, c.k as u64) + c.t as u64
+    }
+
+    /// The number of the frame's cells with a lesser `v`: the index of the first cell with this one.
+    pub fn cells_before_v(&self, v: u8) -> u64
+        requires some { 1 ≤ v }
+        requires inside { v ≤ self.now.top.v }
+        ensures count { result ≡ cells_before_v self.now v }
+        ensures small { result ≤ 99 * (26 * 9) }
+    {
+        let top = self.top;
+        up_to(top.k as u64, top.t as u64, v as u64 - 1)
+    }
+
+    /// Of the frame's cells with one `v`, the number of those with a lesser `k`, whatever the `v` is.
+    pub fn cells_before_k(&self, k: u8) -> u64
+        requires { k ≤ self.now.top.k + 1 }
+        ensures count { result ≡ cells_before_k self.now k }
+        ensures small { result ≤ 26 * 9 }
+    {
+        before(self.top.t as u64, k as u64)
     }
 
     /// The cell at a place. It takes about as many steps as the frame has numbers v and k.
