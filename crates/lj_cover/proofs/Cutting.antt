@@ -1,9 +1,9 @@
 -- The points of a block below a bound, and tests for a point.
-use Rattle.std.proofs.Common.{◌≡◌, ℕ, suc, ◌<◌, ◌≤◌, true, ltb, List, [], ◌∷◌, length, sym, subst, arith, inl, inr, ⊎_elim}
-use Rattle.std.proofs.lemmas.Bool.{cond_both, cond-true, lt-ltb, ltb-true, eqb-true, eq-eqb, or_cases, or_left, or_right, false≢true}
+use Rattle.std.proofs.Common.{◌≡◌, ℕ, suc, ◌<◌, ◌≤◌, ◌↔◌, IsTrue, true, ltb, List, [], ◌∷◌, length, sym, subst, arith, inl, inr, ⊎_elim}
+use Rattle.std.proofs.lemmas.Bool.{and_from, and_parts, cond_both, cond-true, lt-ltb, ltb-true, eqb-true, eq-eqb, or_cases, or_left, or_right, false≢true}
 use Rattle.lj_base.specs.Blocks.{Ascends, Has, Within}
-use Rattle.lj_cover.specs.Operations.{cut, has_point}
-use Rattle.lj_cover.proofs.Points.{Ascends-wider}
+use Rattle.lj_cover.specs.Operations.{cut, has_both, has_point}
+use Rattle.lj_cover.proofs.Points.{Ascends-wider, length-ascending}
 
 pub Has-cut : (w : ℕ) (b : List ℕ) (p : ℕ) → p < w → Has b p → Has (cut w b) p
 Has-cut w [] p below has = absurd has
@@ -42,3 +42,27 @@ pub test-from_Has : (b : List ℕ) (p : ℕ) → Has b p → has_point b p ≡ t
 test-from_Has [] p h = absurd h
 test-from_Has (x ∷ xs) p (inl e) = or_left _ _ (eq-eqb x p e)
 test-from_Has (x ∷ xs) p (inr rest) = or_right _ _ (test-from_Has xs p rest)
+
+pub point_is_tested : (b : List ℕ) (p : ℕ) → IsTrue (has_point b p) ↔ Has b p
+point_is_tested b p = (Has-from_test b p, test-from_Has b p)
+
+pub both_are_tested : (b : List ℕ) (x y : ℕ) → IsTrue (has_both x y b) ↔ (Has b x × Has b y)
+both_are_tested b x y = (
+  λ h. let both = and_parts (has_point b x) (has_point b y) h in (Has-from_test b x both.0, Has-from_test b y both.1),
+  λ both. and_from (has_point b x) (has_point b y) (test-from_Has b x both.0) (test-from_Has b y both.1),
+)
+
+-- the cut has the block's points below w and no others
+from_cut : (w : ℕ) (b : List ℕ) (p : ℕ) → Has (cut w b) p → Has b p × (p < w)
+from_cut w [] p has = absurd has
+from_cut w (x ∷ xs) p has0 =
+    let later : Has (cut w xs) p → Has (x ∷ xs) p × (p < w) = λ has. let rest = from_cut w xs p has in (inr rest.0, rest.1) in
+    cond_both (ltb x w) (x ∷ cut w xs) (cut w xs) (λ c. Has c p → Has (x ∷ xs) p × (p < w))
+    (λ e has. ⊎_elim (λ same. (inl same, omega (arith, ltb-true x w e, same))) later has)
+    (λ _ has. later has) has0
+
+pub points_of_cut : (w : ℕ) (b : List ℕ) (p : ℕ) → Has (cut w b) p ↔ (Has b p × (p < w))
+points_of_cut w b p = (from_cut w b p, λ facts. Has-cut w b p facts.1 facts.0)
+
+pub length-cut_below : (v w : ℕ) (b : List ℕ) → Ascends 0 v b → length (cut w b) ≤ w
+length-cut_below v w b h = let room = length-ascending 0 w (cut w b) (omega arith) (Ascends-cut w 0 v b h) in omega arith

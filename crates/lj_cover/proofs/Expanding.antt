@@ -64,7 +64,7 @@ length-at_size (s ∷ ss) (d ∷ ds) l =
     cond_two true e = refl
     cond_two false e = e
 
-length-cut_blocks : (t k : ℕ) (sizes : List ℕ) (lists : List (List (List ℕ))) (c : List ℕ)
+pub length-cut_blocks : (t k : ℕ) (sizes : List ℕ) (lists : List (List (List ℕ))) (c : List ℕ)
     → cut_cost t k (at_size sizes (map length lists) 0 (length c)) (length c) ≡ length (cut_blocks t k sizes lists c)
 length-cut_blocks t k sizes lists c = cond_three (ltb (length c) t) (leb (length c) k)
   where

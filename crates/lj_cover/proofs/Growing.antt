@@ -20,11 +20,11 @@ AllByRecursion-from_Has P [] each = tt
 AllByRecursion-from_Has P (x ∷ xs) each = (each x (inl refl), AllByRecursion-from_Has P xs (λ y has. each y (inr has)))
 
 -- what a filter keeps passes, and was there
-record Passes (f : ℕ → Bool) (xs : List ℕ) (p : ℕ) : Type 0 where
-  passes : f p ≡ true
-  member : Has xs p
+pub record Passes (f : ℕ → Bool) (xs : List ℕ) (p : ℕ) : Type 0 where
+  pub passes : f p ≡ true
+  pub member : Has xs p
 
-passes_filter : (f : ℕ → Bool) (xs : List ℕ) (p : ℕ) → Has (filter f xs) p → Passes f xs p
+pub passes_filter : (f : ℕ → Bool) (xs : List ℕ) (p : ℕ) → Has (filter f xs) p → Passes f xs p
 passes_filter f [] p has = absurd has
 passes_filter f (x ∷ xs) p has = passes_more f x xs p (passes_filter f xs p) has
   where

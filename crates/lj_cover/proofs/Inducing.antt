@@ -6,6 +6,7 @@ use Rattle.lj_base.specs.Blocks.{Ascends, IsBlock, Has, Within, SomeContains, Ar
 use Rattle.lj_cover.specs.Operations.{cut, fill, place}
 use Rattle.lj_cover.specs.BlockLists.{at_size, cut_blocks, cut_sizes, induced_blocks}
 use Rattle.lj_cover.specs.Rules.{triple}
+pub use Rattle.lj_cover.proofs.Points.{AllByRecursion-weaker}
 use Rattle.lj_cover.proofs.Points.{AllByRecursion-append, AllByRecursion-map, Ascends-wider, SomeContains-append_left, SomeContains-append_right, Within-larger, length-ascending}
 use Rattle.lj_cover.proofs.Filling.{Has-fill, IsBlock-fill}
 use Rattle.lj_cover.proofs.Cutting.{Ascends-cut, Within-cut}
@@ -26,10 +27,6 @@ Has-filter f (x ∷ xs) p passes (inl e) =
 Has-filter f (x ∷ xs) p passes (inr rest) =
     let later = Has-filter f xs p passes rest in
     cond_both (f x) _ _ (λ c. Has c p) (λ _. inr later) (λ _. later)
-
-pub AllByRecursion-weaker : {X : Type 0} (P Q : X → Type 0) (xs : List X) → ((x : X) → P x → Q x) → AllByRecursion P xs → AllByRecursion Q xs
-AllByRecursion-weaker P Q [] step h = tt
-AllByRecursion-weaker P Q (x ∷ xs) step h = (step x h.0, AllByRecursion-weaker P Q xs step h.1)
 
 pub AllByRecursion-both : {X : Type 0} (P Q : X → Type 0) (xs : List X) → AllByRecursion P xs → AllByRecursion Q xs → AllByRecursion (λ x. P x × Q x) xs
 AllByRecursion-both P Q [] h k = tt

@@ -12,6 +12,7 @@ use Rattle.lj_cover.specs.Rules.{Part, Chain, PartFits, Splits, part_cells, trip
 use Rattle.lj_cover.proofs.Points.{AllByRecursion-append, AllByRecursion-map, Has-append_left, Has-append_right, SomeContains-append_left, SomeContains-append_right, Within-append, Within-larger, length-ascending}
 use Rattle.lj_cover.proofs.Elementary.{SomeContains-map}
 use Rattle.lj_cover.proofs.Filling.{covers_fewer}
+use Rattle.lj_cover.proofs.PartsInOrder.{Chain-le}
 use Rattle.lj_cover.proofs.Splitting.{sides}
 
 Has-map : (f : ℕ → ℕ) (b : List ℕ) (p : ℕ) → Has b p → Has (map f b) (f p)
@@ -58,10 +59,6 @@ join_are_blocks v1 v2 l m (d ∷ ds) es h k =
     AllByRecursion-append (IsBlock (v1 + v2) (l + m)) (map (unite v1 d) es) (join_blocks v1 ds es)
     (AllByRecursion-map (IsBlock v2 m) (IsBlock (v1 + v2) (l + m)) (unite v1 d) es (λ e block. IsBlock-unite v1 v2 l m d e h.0 block) k)
     (join_are_blocks v1 v2 l m ds es h.1 k)
-
-pub Chain-le : (lo hi : ℕ) (parts : List Part) → Chain lo hi parts → lo ≤ hi + 1
-Chain-le lo hi [] h = omega arith
-Chain-le lo hi (p ∷ ps) h = let rest = Chain-le (p.b + 1) hi ps h.2 in omega (arith, h.0, h.1)
 
 product_are_blocks : (c : Triple) (v1 lo hi : ℕ) (parts : List Part) (lists : List (List (List ℕ))) → v1 < c.v → hi ≤ c.t → Chain lo hi parts → AllByRecursion (PartFits c v1) parts
     → AllZip Covers lists (flat_map (part_cells c v1) parts) → AreBlocks c.v c.k (product_blocks v1 lists)

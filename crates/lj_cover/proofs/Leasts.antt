@@ -15,7 +15,7 @@ pub derivable_covering : (c : Triple) (n : ℕ) → Derivable c n → (bs : List
 derivable_covering c n h =
     (expand h.tree, subst (Covers (expand h.tree)) h.cell_is (expand_covers h.tree h.derivation), sym (expand_counts h.tree) ∙ h.cost_is)
 
-root_in_limits : (d : Tree) → IsDerivation d → IsCell (root_cell d)
+pub root_in_limits : (d : Tree) → IsDerivation d → IsCell (root_cell d)
 root_in_limits (node r ds) h = h.0.in_limits
 
 pub schonheim_derivable : (c : Triple) (n : ℕ) → Derivable c n → schonheim c.v c.k c.t ≤ n

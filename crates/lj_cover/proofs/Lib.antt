@@ -18,3 +18,8 @@ pub mod Reading
 pub mod Leasts
 pub mod Growing
 pub mod RowsOfUploads
+pub mod BlockwiseRules
+pub mod PartsInOrder
+pub mod CutSizes
+pub mod MoreUploads
+pub mod BaseRules

@@ -71,3 +71,7 @@ AllByRecursion-append P (x ∷ xs) ys h k = (h.0, AllByRecursion-append P xs ys 
 pub AllByRecursion-map : {X Y : Type 0} (P : X → Type 0) (Q : Y → Type 0) (f : X → Y) (xs : List X) → ((x : X) → P x → Q (f x)) → AllByRecursion P xs → AllByRecursion Q (map f xs)
 AllByRecursion-map P Q f [] step h = tt
 AllByRecursion-map P Q f (x ∷ xs) step h = (step x h.0, AllByRecursion-map P Q f xs step h.1)
+
+pub AllByRecursion-weaker : {X : Type 0} (P Q : X → Type 0) (xs : List X) → ((x : X) → P x → Q x) → AllByRecursion P xs → AllByRecursion Q xs
+AllByRecursion-weaker P Q [] step h = tt
+AllByRecursion-weaker P Q (x ∷ xs) step h = (step x h.0, AllByRecursion-weaker P Q xs step h.1)

@@ -12,7 +12,7 @@ use Rattle.lj_cover.specs.Operations.{cut, fill}
 use Rattle.lj_cover.specs.BlockLists.{cut_sizes}
 use Rattle.lj_cover.specs.Rules.{Rule, Upload, Part, One, Runs, All, Leaf, Derived, Derived2, Drop, Add, Grow, Lower, Product, Induced, Chain, PartFits, IsCovering, rule_cell, rule_children, part_cells, triple}
 use Rattle.lj_cover.specs.Instances.{AreUploads, IsInstance, ReadSomewhere, Reads, by_add, by_drop, by_grow, by_induced, by_lower, by_product}
-use Rattle.lj_cover.proofs.Joining.{Chain-le}
+use Rattle.lj_cover.proofs.PartsInOrder.{Chain-le}
 use Rattle.lj_cover.proofs.Points.{Ascends-wider, SomeContains-smaller}
 use Rattle.lj_cover.proofs.Filling.{Has-fill, IsBlock-fill}
 use Rattle.lj_cover.proofs.Cutting.{Ascends-cut, Within-cut, length-cut}
@@ -215,7 +215,7 @@ some_cut v w l (b ∷ bs) room h (inl here) =
 some_cut v w l (b ∷ bs) room h (inr rest) = or_right _ _ (some_cut v w l bs room h.1 rest)
 
 -- the sizes of cuts, as cells, are in the frame
-sizes_inside : (frame : Top) (c : Triple) (bs : List (List ℕ)) (lo n : ℕ) → InFrame frame c → c.k < lo → lo + n ≤ suc c.v
+pub sizes_inside : (frame : Top) (c : Triple) (bs : List (List ℕ)) (lo n : ℕ) → InFrame frame c → c.k < lo → lo + n ≤ suc c.v
     → AllByRecursion (InFrame frame) (map (λ l. triple l c.k c.t) (filter (λ l. list_any (λ b. eqb (length (cut c.v b)) l) bs) (range_with_len lo n)))
 sizes_inside frame c bs lo zero f from to = tt
 sizes_inside frame c bs lo (suc n) f from to =

@@ -5,7 +5,7 @@ use Rattle.lj_base.specs.declared.Row.{Row}
 use Rattle.lj_base.specs.Cells.{Triple}
 use Rattle.lj_base.specs.Frames.{InFrame, Top}
 use Rattle.lj_cover.specs.Operations.{cut}
-use Rattle.lj_cover.specs.Rules.{Rule, Upload, One, Runs, All, Leaf, Derived, Derived2, Drop, Add, Grow, Lower, Product, Induced, Condition, ForUpload, IsCovering, rule_cell, rule_children, cut_cost, rule_cost, triple}
+use Rattle.lj_cover.specs.Rules.{Rule, Upload, One, Runs, All, Leaf, Derived, Derived2, Condition, ForUpload, IsCovering, rule_cell, rule_children, cut_cost, rule_cost, triple}
 
 -- the rule has children, or an upload that is cut
 abbrev pub IsStep : Rule → Type 0
@@ -15,12 +15,7 @@ IsStep (All c) = ⊥
 IsStep (Leaf u) = ⊥
 IsStep (Derived u x) = ⊥
 IsStep (Derived2 u x y) = ⊥
-IsStep (Drop c) = Unit {0}
-IsStep (Add c) = Unit {0}
-IsStep (Grow c) = Unit {0}
-IsStep (Lower c) = Unit {0}
-IsStep (Product c v1 parts) = Unit {0}
-IsStep (Induced u w k) = Unit {0}
+IsStep _ = Unit {0}
 
 -- one use of drop, add, grow, lower, product or induced at a cell, with cells of the frame in the place of its children
 pub record IsInstance (frame : Top) (uploads : List Upload) (c : Triple) (r : Rule) : Type 0 where
