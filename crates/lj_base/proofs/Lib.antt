@@ -1,8 +1,9 @@
 pub mod Ascending
 pub mod Lists
-pub mod Counting
-pub mod Order
-pub mod Triangle
+pub mod CellCounts
+pub mod CellOrder
+pub mod BinomialTable
 pub mod Choices
-pub mod Places
+pub mod PointArrays
+pub mod Insertion
 pub mod Inserted

@@ -14,7 +14,7 @@ pub record InFrame (f : Top) (c : Triple) : Type 0 where
   pub k : c.k ≤ f.top.k
   pub t : c.t ≤ f.top.t
 
--- the cells (v,k,t) and those with a greater t up to n of them
+-- the cells with this v and this k, and a t from the list
 abbrev pub cells_with : ℕ → ℕ → List ℕ → List Triple
 cells_with v k [] = []
 cells_with v k (t ∷ ts) = record { v = v; k = k; t = t } ∷ cells_with v k ts
@@ -29,10 +29,11 @@ abbrev pub before_k : ℕ → ℕ → ℕ
 before_k greatest_t zero = 0
 before_k greatest_t (suc k) = before_k greatest_t k + (min k greatest_t + 1)
 
--- how many cells have a v of at most this
+-- how many cells have a v of at most a number
 abbrev pub up_to_v : ℕ → ℕ → ℕ → ℕ
 up_to_v greatest_k greatest_t zero = 0
-up_to_v greatest_k greatest_t (suc v) = up_to_v greatest_k greatest_t v + before_k greatest_t (min (suc v) greatest_k + 1)
+up_to_v greatest_k greatest_t (suc v) =
+    up_to_v greatest_k greatest_t v + before_k greatest_t (min (suc v) greatest_k + 1)
 
 -- how many cells of the frame have a lesser v
 abbrev pub cells_before_v : Top → ℕ → ℕ

@@ -1,6 +1,8 @@
 ghost use Rattle.std.specs.Prelude.{◌≡◌, ℕ, ◌+◌, ◌-◌, ◌*◌, ◌<◌, ◌≤◌, ◌↔◌, IsTrue, Some, length, min, slice_get};
+ghost use Rattle.std.specs.Prelude.{slice_index};
 ghost use Rattle.lj_base.specs.Bounds.{at_cell};
-ghost use Rattle.lj_base.specs.Frames.{InFrame, before_k, cells_before_k, cells_before_v, cells_of, index_of, size_of, up_to_v};
+ghost use Rattle.lj_base.specs.Frames.{InFrame, before_k, cells_before_k, cells_before_v, cells_of, index_of, size_of};
+ghost use Rattle.lj_base.specs.Frames.{up_to_v};
 
 use crate::cells::Cell;
 use std::marker::Model;
@@ -38,7 +40,7 @@ impl Frame {
         c.v <= self.top.v && c.k <= self.top.k && c.t <= self.top.t
     }
 
-    /// The number of its cells.
+    /// The number of its cells. It takes a few multiplications.
     pub fn size(&self) -> u64
         ensures size { result ≡ size_of self.now }
         ensures cells { result ≡ length (cells_of self.now) }
@@ -48,7 +50,7 @@ impl Frame {
         up_to(top.k as u64, top.t as u64, top.v as u64)
     }
 
-    /// The place of a cell in ascending order of v, then k, then t, from 0. It takes a few multiplications.
+    /// The place of a cell in ascending order of `v`, then `k`, then `t`, from 0. It takes a few multiplications.
     pub fn index(&self, c: Cell) -> u64
         requires { InFrame self.now c }
         ensures index { result ≡ index_of self.now c }
@@ -81,7 +83,14 @@ impl Frame {
         before(self.top.t as u64, k as u64)
     }
 
-    /// The cell at a place. It takes about as many steps as the frame has numbers v and k.
+    /// `cells_before_k` of each `k` up to 26.
+    pub fn row_offsets(&self) -> [usize; 27]
+        ensures { (k : ℕ) → k ≤ 26 → slice_index result k ≡ cells_before_k self.now k }
+    {
+        offsets_up_to(self.top.t as usize)
+    }
+
+    /// The cell at a place. It takes about as many steps as the frame has numbers `v` and `k`.
     pub fn cell(&self, i: u64) -> Cell
         requires { i < size_of self.now }
         ensures within { InFrame self.now result }
@@ -101,6 +110,20 @@ impl Frame {
     {
         numbers[self.index(c) as usize]
     }
+}
+
+// For each k up to 26, the number of cells with one v whose k is below it.
+fn offsets_up_to(t: usize) -> [usize; 27]
+    requires { t ≤ 8 }
+    ensures { (k : ℕ) → k ≤ 26 → slice_index result k ≡ before_k t k }
+{
+    let mut offsets = [0; 27];
+    let mut total = 0;
+    for k in 0..27 {
+        offsets[k] = total;
+        total += k.min(t) + 1;
+    }
+    offsets
 }
 
 // The v of the cell at a place, and the cell's place among those with that v.
@@ -146,7 +169,7 @@ fn row_at(top: Cell, v: u8, place: u64) -> Cell
     unreachable!()
 }
 
-// The number of cells with a v of at most this.
+// The number of cells whose v is at most a number.
 fn up_to(k: u64, t: u64, v: u64) -> u64
     requires small_k { k ≤ 25 }
     requires small_t { t ≤ 8 }
@@ -161,7 +184,7 @@ fn up_to(k: u64, t: u64, v: u64) -> u64
     }
 }
 
-// The number of cells with one v whose k is below this.
+// The number of cells with one v whose k is below a number.
 fn before(t: u64, k: u64) -> u64
     requires small_t { t ≤ 8 }
     requires small_k { k ≤ 26 }
@@ -175,7 +198,7 @@ fn before(t: u64, k: u64) -> u64
     }
 }
 
-// The number of cells with a v of at most this, where no k is too great.
+// The number of cells whose v is at most a number, where no k up to it is too great for the frame.
 fn layers(t: u64, v: u64) -> u64
     requires small_t { t ≤ 8 }
     requires small_v { v ≤ 25 }

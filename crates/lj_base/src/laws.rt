@@ -1,25 +1,29 @@
 //! Laws of frames, of bounds and of numbers of sets. Each function does nothing: its contract is the law.
 
-ghost use Rattle.std.specs.Prelude.{◌≡◌, ◌≢◌, ℕ, ◌+◌, ◌-◌, ◌*◌, ◌^◌, ◌<◌, ◌≤◌, ◌↔◌, Some, length, slice_get, slice_set, Contains};
+ghost use Rattle.std.specs.Prelude.{◌≡◌, ◌≢◌, ℕ, ◌+◌, ◌-◌, ◌*◌, ◌^◌, ◌<◌, ◌≤◌, ◌↔◌, Some, length, slice_get, slice_set};
+ghost use Rattle.std.specs.Prelude.{Contains};
 ghost use Rattle.lj_base.specs.Bounds.{at_cell};
 ghost use Rattle.lj_base.specs.Cells.{IsCell, Triple};
 ghost use Rattle.lj_base.specs.Colex.{choose};
-ghost use Rattle.lj_base.specs.Frames.{InFrame, IsBefore, Top, cells_before_k, cells_before_v, cells_of, index_of, key, size_of};
+ghost use Rattle.lj_base.specs.Frames.{InFrame, IsBefore, Top, cells_before_k, cells_before_v, cells_of, index_of, key};
+ghost use Rattle.lj_base.specs.Frames.{size_of};
 
 use crate::limits::COST_LIMIT;
 
-/// On the cells of a frame the index is one to one, and below the frame's size. It is the number of cells with a
-/// lesser `v`, the number of those with the same `v` and a lesser `k`, and `t`, together.
+/// On the cells of a frame the index is one to one and below the frame's size, which is small. It is the sum of the
+/// number of cells with a lesser `v`, the number of those with the same `v` and a lesser `k`, and `t`.
 pub fn index_law()
     ensures below { (f : Top) (c : Triple) → InFrame f c → index_of f c < size_of f }
     ensures one_to_one { (f : Top) (c d : Triple) → InFrame f c → InFrame f d → index_of f c ≡ index_of f d → c ≡ d }
+    ensures size { (f : Top) → IsCell f.top → size_of f ≤ 99 * (26 * 9) }
     ensures offsets { (f : Top) (c : Triple) → index_of f c ≡ cells_before_v f c.v + cells_before_k f c.k + c.t }
 {}
 
 /// The index numbers a frame's cells in ascending order of `v`, then `k`, then `t`; and so does a number that does not
 /// depend on the frame.
 pub fn index_order_law()
-    ensures order { (f : Top) (c d : Triple) → InFrame f c → InFrame f d → (IsBefore c d ↔ (index_of f c < index_of f d)) }
+    ensures order { (f : Top) (c d : Triple) → InFrame f c → InFrame f d
+        → (IsBefore c d ↔ (index_of f c < index_of f d)) }
     ensures key { (c d : Triple) → IsCell c → IsCell d → (IsBefore c d ↔ (key c < key d)) }
 {}
 

@@ -13,7 +13,7 @@ pub trait Source {
     /// The bytes that are left, where the source reports them.
     ghost left: { Self → Option (List ℕ) };
 
-    /// How often it has failed.
+    /// How many of its calls failed.
     ghost faults: { Self → ℕ };
 
     /// Puts the next bytes at the front of `buf` and returns their number: 0, for a buffer that is not empty, at the
@@ -27,7 +27,7 @@ pub trait Source {
         ensures failed { OnErr result (Rose (faults self.old) (faults self.new)) }
         ensures never_falls { faults self.old ≤ faults self.new };
 
-    /// How often it has failed. The count stays at the greatest u64 once it is there.
+    /// How many of its calls failed. The count stays at the greatest u64 once it is there.
     fn faults(&self) -> u64
         ensures { result ≡ faults self.now };
 }
@@ -37,7 +37,7 @@ pub trait Sink {
     /// The bytes that were written, where the sink reports them.
     ghost written: { Self → Option (List ℕ) };
 
-    /// How often it has failed.
+    /// How many of its calls failed.
     ghost faults: { Self → ℕ };
 
     /// Takes some of the bytes, from the front, and returns their number: 0 only where there are none.
@@ -51,7 +51,7 @@ pub trait Sink {
         ensures failed { OnErr result (Rose (faults self.old) (faults self.new)) }
         ensures never_falls { faults self.old ≤ faults self.new };
 
-    /// How often it has failed. The count stays at the greatest u64 once it is there.
+    /// How many of its calls failed. The count stays at the greatest u64 once it is there.
     fn faults(&self) -> u64
         ensures { result ≡ faults self.now };
 }

@@ -1,7 +1,7 @@
 use Rattle.std.proofs.Common.{arith}
 use Rattle.std.proofs.lemmas.List.{get_or-set_other, get_or-set_same}
 use Rattle.lj_base.specs.Frames.{index_of}
-use Rattle.lj_base.proofs.Order.{index_below, one_index}
+use Rattle.lj_base.proofs.CellOrder.{index_below, one_index}
 use Rattle.lj_base.proofs.laws.at_cell_law.Goals as goal
 
 pub returns-clause-stored : goal.returns-clause-stored

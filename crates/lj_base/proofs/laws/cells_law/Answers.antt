@@ -1,4 +1,4 @@
-use Rattle.lj_base.proofs.Order.{members, place_is, size_is}
+use Rattle.lj_base.proofs.CellOrder.{members, place_is, size_is}
 use Rattle.lj_base.proofs.laws.cells_law.Goals as goal
 
 pub returns : goal.returns

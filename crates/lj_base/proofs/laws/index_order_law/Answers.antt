@@ -1,4 +1,4 @@
-use Rattle.lj_base.proofs.Order.{index-order, key-order}
+use Rattle.lj_base.proofs.CellOrder.{index-order, key-order}
 use Rattle.lj_base.proofs.laws.index_order_law.Goals as goal
 
 pub returns : goal.returns

@@ -1,7 +1,7 @@
 use Rattle.std.proofs.Common.{◌∙◌, ap, sym, subst, arith, ◌-◌}
 use Rattle.std.specs.List.{slice_get}
 use Rattle.lj_base.specs.Frames.{InFrame, cells_of, up_to_v}
-use Rattle.lj_base.proofs.Order.{at_index}
+use Rattle.lj_base.proofs.CellOrder.{at_index}
 use Rattle.lj_base.proofs.frames.Frame.cell.Goals as goal
 
 pub returns-clause-within : goal.returns-clause-within
@@ -14,4 +14,6 @@ returns-clause-index c =
     rw (← c.self.view_is) (omega (arith, v, c.row_at.ensures.place, c.layer_at-v.ensures.before))
 
 pub returns-clause-place : goal.returns-clause-place
-returns-clause-place c = ap (slice_get (cells_of c.args.self.now)) (sym (returns-clause-index c)) ∙ at_index c.args.self.now c.row_at.result (returns-clause-within c)
+returns-clause-place c =
+    ap (slice_get (cells_of c.args.self.now)) (sym (returns-clause-index c))
+    ∙ at_index c.args.self.now c.row_at.result (returns-clause-within c)
