@@ -1,7 +1,8 @@
 -- A rule has children or an upload that is cut, or it has no children and its cost is its own.
 use Rattle.std.proofs.Common.{◌≡◌, ℕ, ◌⊎◌, List, [], refl, inl, inr}
 use Rattle.lj_cover.specs.Instances.{IsStep}
-use Rattle.lj_cover.specs.Rules.{Rule, One, Runs, All, Leaf, Derived, Derived2, Drop, Add, Grow, Lower, Product, Induced, rule_children, rule_cost}
+use Rattle.lj_cover.specs.Rules.{Rule, One, Runs, All, Leaf, Derived, Derived2, Drop, Add, Grow, Lower, Product}
+use Rattle.lj_cover.specs.Rules.{Induced, rule_children, rule_cost}
 
 pub base_or_step : (r : Rule) → IsStep r ⊎ (IsStep r → ⊥)
 base_or_step (One c) = inr (λ h. h)

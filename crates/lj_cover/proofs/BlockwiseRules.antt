@@ -1,14 +1,17 @@
--- Under a rule that goes through the blocks of an upload the blocks are the join of what each gives, and the cost is the sum.
-use Rattle.std.proofs.Common.{◌≡◌, ℕ, ◌<◌, ◌≤◌, Bool, true, false, cond, leb, ltb, List, [], ◌∷◌, ◌++◌, length, map, refl, sym, ap, arith}
+-- Under a rule that goes through the blocks of an upload the blocks are the join of what each gives, and the cost is
+-- the sum.
+use Rattle.std.proofs.Common.{◌≡◌, ℕ, ◌<◌, ◌≤◌, Bool, true, false, cond, leb, ltb, List, [], ◌∷◌, ◌++◌, length, map}
+use Rattle.std.proofs.Common.{refl, sym, ap, arith}
 use Rattle.std.proofs.lemmas.Bool.{leb-false}
 use Rattle.std.specs.List.{filter, flat_map, sum_by}
 use Rattle.lj_cover.specs.BlockLists.{blocks_of_cut}
 use Rattle.lj_cover.specs.Operations.{fill, has_both, has_point, place, without}
-use Rattle.lj_cover.specs.Rules.{Rule, One, Runs, All, Leaf, Derived, Derived2, Drop, Add, Grow, Lower, Product, Induced, cut_cost, rule_blocks, rule_cost}
+use Rattle.lj_cover.specs.Rules.{Rule, One, Runs, All, Leaf, Derived, Derived2, Drop, Add, Grow, Lower, Product}
+use Rattle.lj_cover.specs.Rules.{Induced, cut_cost, rule_blocks, rule_cost}
 use Rattle.lj_cover.specs.BlockLists.{cut_sizes}
 use Rattle.lj_cover.specs.Operations.{cut}
 use Rattle.lj_cover.specs.Sources.{IsBlockwise, gives, share, source}
-use Rattle.lj_cover.proofs.Expanding.{length-cut_blocks}
+use Rattle.lj_cover.proofs.RulesCover.{length-cut_blocks}
 
 -- what is kept by a test and changed by f, block by block
 kept_each : (p : List ℕ → Bool) (f : List ℕ → List ℕ) (bs : List (List ℕ))
@@ -17,11 +20,13 @@ kept_each p f [] = refl
 kept_each p f (b ∷ bs) = by_test (p b) (kept_each p f bs)
   where
     by_test : (q : Bool) → map f (filter p bs) ≡ flat_map (λ a. cond (p a) (f a ∷ []) []) bs
-        → map f (cond q (b ∷ filter p bs) (filter p bs)) ≡ cond q (f b ∷ []) [] ++ flat_map (λ a. cond (p a) (f a ∷ []) []) bs
+        → map f (cond q (b ∷ filter p bs) (filter p bs)) ≡ cond q (f b ∷ []) [] ++ flat_map
+        (λ a. cond (p a) (f a ∷ []) []) bs
     by_test true e = ap (λ rest. f b ∷ rest) e
     by_test false e = e
 
-pub blocks_join : (r : Rule) (lists : List (List (List ℕ))) → IsBlockwise r → rule_blocks r lists ≡ flat_map (gives r lists) (source r)
+pub blocks_join : (r : Rule) (lists : List (List (List ℕ))) → IsBlockwise r
+    → rule_blocks r lists ≡ flat_map (gives r lists) (source r)
 blocks_join (Derived u x) lists h = kept_each (λ b. has_point b x) (without x) u.blocks
 blocks_join (Derived2 u x y) lists h = kept_each (has_both x y) (λ b. without x (without y b)) u.blocks
 blocks_join (Induced u w k) lists h = refl
@@ -69,7 +74,8 @@ length-kept true b = refl
 length-kept false b = refl
 
 -- one block gives as many blocks as its share says
-pub length-gives : (r : Rule) (lists : List (List (List ℕ))) (b : List ℕ) → length (gives r lists b) ≡ share r (map length lists) b
+pub length-gives : (r : Rule) (lists : List (List (List ℕ))) (b : List ℕ)
+    → length (gives r lists b) ≡ share r (map length lists) b
 length-gives (Derived u x) lists b = length-kept (has_point b x) (without x b)
 length-gives (Derived2 u x y) lists b = length-kept (has_both x y b) (without x (without y b))
 length-gives (Induced u w k) lists b = sym (length-cut_blocks u.cell.t k (cut_sizes k w u.blocks) lists (cut w b))

@@ -1,5 +1,6 @@
 -- The list of blocks of each rule, from what the rule fixes and from the lists of its children, in the rule's order.
-use Rattle.std.specs.Prelude.{ℕ, suc, ◌+◌, ◌-◌, ◌*◌, ◌/◌, ◌==◌, nat_lt, nat_le, if◌then◌else◌, List, [], ◌∷◌, ◌++◌, map, length}
+use Rattle.std.specs.Prelude.{ℕ, suc, ◌+◌, ◌-◌, ◌*◌, ◌/◌, ◌==◌, nat_lt, nat_le, if◌then◌else◌, List, [], ◌∷◌, ◌++◌, map}
+use Rattle.std.specs.Prelude.{length}
 use Rattle.std.specs.List.{filter, flat_map, list_any, range_with_len}
 use Rattle.lj_cover.specs.Operations.{has_point, has_both, fill, cut, drop_last, add_point, unite, place, without}
 
@@ -59,7 +60,8 @@ at_size [] xs d l = d
 at_size (s ∷ ss) [] d l = d
 at_size (s ∷ ss) (x ∷ xs) d l = if s == l then x else at_size ss xs d l
 
--- the blocks for one cut: none where it is smaller than t, itself filled below w where it has up to k points, and else those
+-- the blocks for one cut: none where it is smaller than t, itself filled below w where it has up to k points, and else
+-- those
 -- of the child for its size, placed on its points
 abbrev pub blocks_of_cut : ℕ → ℕ → List (List ℕ) → List ℕ → List (List ℕ)
 blocks_of_cut t k child c =

@@ -1,11 +1,13 @@
 -- Instances of rules over a frame, priced by a number for each cell, and what such a price depends on.
-use Rattle.std.specs.Prelude.{◌≡◌, ℕ, suc, ◌+◌, ◌-◌, ◌*◌, ◌<◌, ◌≤◌, ◌==◌, ◌&&◌, Bool, nat_le, if◌then◌else◌, Some, List, [], ◌∷◌, map, length, slice_get}
+use Rattle.std.specs.Prelude.{◌≡◌, ℕ, suc, ◌+◌, ◌-◌, ◌*◌, ◌<◌, ◌≤◌, ◌==◌, ◌&&◌, Bool, nat_le, if◌then◌else◌, Some, List}
+use Rattle.std.specs.Prelude.{[], ◌∷◌, map, length, slice_get}
 use Rattle.std.specs.List.{All as AllOf, AllByRecursion, Contains, count_by, range_with_len}
 use Rattle.lj_base.specs.declared.Row.{Row}
 use Rattle.lj_base.specs.Cells.{Triple}
 use Rattle.lj_base.specs.Frames.{InFrame, Top}
 use Rattle.lj_cover.specs.Operations.{cut}
-use Rattle.lj_cover.specs.Rules.{Rule, Upload, One, Runs, All, Leaf, Derived, Derived2, Condition, ForUpload, IsCovering, rule_cell, rule_children, cut_cost, rule_cost, triple}
+use Rattle.lj_cover.specs.Rules.{Rule, Upload, One, Runs, All, Leaf, Derived, Derived2, Condition, ForUpload}
+use Rattle.lj_cover.specs.Rules.{IsCovering, rule_cell, rule_children, cut_cost, rule_cost, triple}
 
 -- the rule has children, or an upload that is cut
 abbrev pub IsStep : Rule → Type 0
@@ -64,7 +66,8 @@ pub record IsRowOf (uploads : List Upload) (c : Triple) (r : Row) : Type 0 where
 -- the price of an induced instance at the cell, from the row of its upload, from size l on
 abbrev pub row_price_from : (Triple → ℕ) → Triple → ℕ → List ℕ → ℕ
 row_price_from bounds c l [] = 0
-row_price_from bounds c l (n ∷ ns) = n * cut_cost c.t c.k (bounds (triple l c.k c.t)) l + row_price_from bounds c (suc l) ns
+row_price_from bounds c l (n ∷ ns) =
+    n * cut_cost c.t c.k (bounds (triple l c.k c.t)) l + row_price_from bounds c (suc l) ns
 
 abbrev pub row_price : (Triple → ℕ) → Triple → List ℕ → ℕ
 row_price bounds c counts = row_price_from bounds c 0 counts
@@ -78,8 +81,9 @@ pub data Reads (frame : Top) (reader child : Triple) : Type 0 where
   -- what the reader has beside the child makes a second factor
   by_product : child.v < reader.v → child.k ≤ reader.k → child.t ≤ reader.t
       → reader.t - child.t ≤ reader.k - child.k → reader.k - child.k ≤ reader.v - child.v → Reads frame reader child
-  -- a block of the frame may have so many points below the reader's v
-  by_induced : child ≡ triple child.v reader.k reader.t → reader.k < child.v → child.v ≤ reader.v → child.v ≤ frame.top.k → Reads frame reader child
+  -- a block of the frame may have as many points below the reader's v as the child has
+  by_induced : child ≡ triple child.v reader.k reader.t → reader.k < child.v → child.v ≤ reader.v
+      → child.v ≤ frame.top.k → Reads frame reader child
 
 -- each upload of the list covers, and its cell is in the frame
 abbrev pub AreUploads : Top → List Upload → Type 0

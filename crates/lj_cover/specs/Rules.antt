@@ -1,18 +1,22 @@
--- The rules by which a covering is made from uploads and from coverings of other cells: each has its cell, the cells of its
+-- The rules by which a covering is made from uploads and from coverings of other cells: each has its cell, the cells
+-- of its
 -- children, a condition, a cost, and a list of blocks.
-use Rattle.std.specs.Prelude.{◌≡◌, ℕ, ◌+◌, ◌-◌, ◌*◌, ◌<◌, ◌≤◌, ◌⊎◌, nat_lt, nat_le, if◌then◌else◌, min, List, [], ◌∷◌, map, length, slice_index}
+use Rattle.std.specs.Prelude.{◌≡◌, ℕ, ◌+◌, ◌-◌, ◌*◌, ◌<◌, ◌≤◌, ◌⊎◌, nat_lt, nat_le, if◌then◌else◌, min, List, [], ◌∷◌}
+use Rattle.std.specs.Prelude.{map, length, slice_index}
 use Rattle.std.specs.List.{AllByRecursion, flat_map, sum_by}
 use Rattle.lj_base.specs.Blocks.{Covers}
 use Rattle.lj_base.specs.Cells.{IsCell, Triple}
 use Rattle.lj_base.specs.Colex.{choose, sets}
 use Rattle.lj_cover.specs.Operations.{cut, degree_at, pair_degree_at}
-use Rattle.lj_cover.specs.BlockLists.{one_block, ceil_div, run_blocks, derived_blocks, derived2_blocks, drop_blocks, add_blocks, grow_blocks, product_blocks, cut_sizes, at_size, induced_blocks}
+use Rattle.lj_cover.specs.BlockLists.{one_block, ceil_div, run_blocks, derived_blocks, derived2_blocks, drop_blocks}
+use Rattle.lj_cover.specs.BlockLists.{add_blocks, grow_blocks, product_blocks, cut_sizes, at_size, induced_blocks}
 
 -- the cell of v points, blocks of k and sets of t
 abbrev pub triple : ℕ → ℕ → ℕ → Triple
 triple v k t = record { v = v; k = k; t = t }
 
--- a covering that a client has uploaded: the bytes of the client's name, its number among that client's, its cell and its blocks
+-- a covering that a client has uploaded: the bytes of the client's name, its number among that client's, its cell and
+-- its blocks
 pub record Upload : Type 0 where
   pub client : List ℕ
   pub ordinal : ℕ
@@ -24,7 +28,8 @@ pub record IsCovering (u : Upload) : Type 0 where
   pub in_limits : IsCell u.cell
   pub covers : Covers u.blocks u.cell
 
--- one part of a product. It serves the sets that have from a to b points in the first factor, and its blocks have l points there
+-- one part of a product. It serves the sets that have from a to b points in
+-- the first factor, and its blocks have l points there
 pub record Part : Type 0 where
   pub a : ℕ
   pub b : ℕ

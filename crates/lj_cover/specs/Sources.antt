@@ -1,4 +1,5 @@
--- The rules that go through the blocks of an upload: what one block gives and costs, of which the rule has the join and the sum.
+-- The rules that go through the blocks of an upload: what one block gives and costs, of which the rule has the join
+-- and the sum.
 use Rattle.std.specs.Prelude.{ℕ, if◌then◌else◌, List, [], ◌∷◌, length}
 use Rattle.lj_cover.specs.BlockLists.{at_size, cut_blocks, cut_sizes}
 use Rattle.lj_cover.specs.Operations.{cut, has_both, has_point, without}

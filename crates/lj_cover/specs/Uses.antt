@@ -1,10 +1,13 @@
--- What holds of each upload, or of each rule, of a derivation follows from what is stronger. A contract can't range over all such
+-- What holds of each upload, or of each rule, of a derivation follows from what is stronger. A contract can't range
+-- over all such
 -- facts, so these laws stand here, and the laws for lists of uploads are contracts.
 use Rattle.std.specs.Prelude.{◌≡◌, ℕ}
 use Rattle.lj_base.specs.Cells.{Triple}
 use Rattle.lj_base.specs.Frames.{Top}
-use Rattle.lj_cover.specs.Rules.{Rule, Upload, One, Runs, All, Leaf, Derived, Derived2, Drop, Add, Grow, Lower, Product, Induced, ForUpload}
-use Rattle.lj_cover.specs.Derivations.{Tree, Trees, node, none, more, EachRule, EachRules, IsDerivation, IsIn, root_cell, tree_cost}
+use Rattle.lj_cover.specs.Rules.{Rule, Upload, One, Runs, All, Leaf, Derived, Derived2, Drop, Add, Grow, Lower, Product}
+use Rattle.lj_cover.specs.Rules.{Induced, ForUpload}
+use Rattle.lj_cover.specs.Derivations.{Tree, Trees, node, none, more, EachRule, EachRules, IsDerivation, IsIn}
+use Rattle.lj_cover.specs.Derivations.{root_cell, tree_cost}
 
 -- P holds of each upload of the tree
 abbrev pub EachUpload : (Upload → Type 0) → Tree → Type 0
@@ -37,12 +40,14 @@ mutual
   pub EachRule-weaker : (P Q : Rule → Type 0) → ((r : Rule) → P r → Q r) → (d : Tree) → EachRule P d → EachRule Q d
   EachRule-weaker P Q step (node r ds) h = (step r h.0, EachRules-weaker P Q step ds h.1)
 
-  pub EachRules-weaker : (P Q : Rule → Type 0) → ((r : Rule) → P r → Q r) → (ds : Trees) → EachRules P ds → EachRules Q ds
+  pub EachRules-weaker : (P Q : Rule → Type 0) → ((r : Rule) → P r → Q r) → (ds : Trees) → EachRules P ds
+      → EachRules Q ds
   EachRules-weaker P Q step none h = tt
   EachRules-weaker P Q step (more d ds) h = (EachRule-weaker P Q step d h.0, EachRules-weaker P Q step ds h.1)
 
 -- a tree with uploads of which P holds is one with uploads of which Q holds, where Q follows from P
-pub EachUpload-weaker : (P Q : Upload → Type 0) → ((u : Upload) → P u → Q u) → (d : Tree) → EachUpload P d → EachUpload Q d
+pub EachUpload-weaker : (P Q : Upload → Type 0) → ((u : Upload) → P u → Q u) → (d : Tree) → EachUpload P d
+    → EachUpload Q d
 EachUpload-weaker P Q step d h = EachRule-weaker (ForUpload P) (ForUpload Q) (ForUpload-weaker P Q step) d h
 
 -- and so is what is derivable

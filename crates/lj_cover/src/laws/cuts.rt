@@ -1,4 +1,5 @@
-ghost use Rattle.std.specs.Prelude.{◌≡◌, ℕ, ◌+◌, ◌<◌, ◌≤◌, ◌==◌, ◌↔◌, ◌⊎◌, IsTrue, List, [], map, length, slice_index, sum};
+ghost use Rattle.std.specs.Prelude.{◌≡◌, ℕ, ◌+◌, ◌<◌, ◌≤◌, ◌==◌, ◌↔◌, ◌⊎◌, IsTrue, List, [], map, length, slice_index};
+ghost use Rattle.std.specs.Prelude.{sum};
 ghost use Rattle.std.specs.List.{count_by};
 ghost use Rattle.lj_base.specs.Blocks.{AreBlocks, Ascends, Has};
 ghost use Rattle.lj_cover.specs.BlockLists.{at_size, blocks_of_cut, cut_sizes};
@@ -18,11 +19,11 @@ pub fn points_of_cuts()
     ensures points { (w : ℕ) (b : List ℕ) (p : ℕ) → Has (cut w b) p ↔ (Has b p × (p < w)) }
     ensures ascends { (lo v w : ℕ) (b : List ℕ) → Ascends lo v b → Ascends lo w (cut w b) }
     ensures shorter { (w : ℕ) (b : List ℕ) → length (cut w b) ≤ length b }
-    ensures narrow { (v w : ℕ) (b : List ℕ) → Ascends 0 v b → length (cut w b) ≤ w }
+    ensures narrow { (lo v w : ℕ) (b : List ℕ) → Ascends lo v b → length (cut w b) ≤ w }
 {}
 
-/// The sizes of cuts are, in order, the numbers above `k` of points that some cut has, so those that a row counts; what is
-/// made for each size is found at it.
+/// The sizes of cuts are, in order, the numbers above `k` of points that some cut has, so those that a row counts; what
+/// is made for each size is found at it.
 pub fn sizes_of_cuts()
     ensures sizes { (v m k w l : ℕ) (bs : List (List ℕ)) → AreBlocks v m bs
         → Has (cut_sizes k w bs) l ↔ IsCutSize k w bs l }

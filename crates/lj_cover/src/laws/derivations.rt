@@ -3,14 +3,15 @@ ghost use Rattle.std.specs.List.{AllByRecursion, Contains};
 ghost use Rattle.lj_base.specs.Blocks.{Covers};
 ghost use Rattle.lj_base.specs.Cells.{Triple};
 ghost use Rattle.lj_base.specs.Frames.{InFrame, Top};
-ghost use Rattle.lj_cover.specs.Derivations.{Derivable, DerivableIn, EachRules, IsDerivation, IsFrom, IsIn, IsLeast, Tree, Trees, expand, root_cell, root_cells, tree_cost};
+ghost use Rattle.lj_cover.specs.Derivations.{Derivable, DerivableIn, EachRules, IsDerivation, IsFrom, IsIn, IsLeast};
+ghost use Rattle.lj_cover.specs.Derivations.{Tree, Trees, expand, root_cell, root_cells, tree_cost};
 ghost use Rattle.lj_cover.specs.Instances.{IsInstance};
 ghost use Rattle.lj_cover.specs.Lower.{schonheim};
 ghost use Rattle.lj_cover.specs.Rules.{ForUpload, Rule, Upload, rule_cell, triple};
 ghost use Rattle.lj_cover.specs.Uses.{DerivableBy};
 
-/// The expansion law: the blocks of a derivation cover its cell and are as many as it costs. So each derivable number is
-/// the size of a covering.
+/// The expansion law: the blocks of a derivation cover its cell and are as many as it costs. So each derivable number
+/// is the size of a covering.
 pub fn expansion_covers()
     ensures covers { (d : Tree) → IsDerivation d → Covers (expand d) (root_cell d) }
     ensures counts { (d : Tree) → length (expand d) ≡ tree_cost d }

@@ -6,7 +6,8 @@ ghost use Rattle.lj_base.specs.Frames.{InFrame, Top};
 ghost use Rattle.lj_base.specs.declared.Row.{Row};
 ghost use Rattle.lj_cover.specs.BlockLists.{cut_sizes};
 ghost use Rattle.lj_cover.specs.Derivations.{DerivableIn};
-ghost use Rattle.lj_cover.specs.Instances.{AreUploads, IsInstance, IsRowOf, ReadSomewhere, Reads, counts_at, cut_counts, has_row, price, row_price, rows_at, rows_from};
+ghost use Rattle.lj_cover.specs.Instances.{AreUploads, IsInstance, IsRowOf, ReadSomewhere, Reads, counts_at};
+ghost use Rattle.lj_cover.specs.Instances.{cut_counts, has_row, price, row_price, rows_at, rows_from};
 ghost use Rattle.lj_cover.specs.Rules.{Condition, Induced, Rule, Upload, rule_children, rule_cost, triple};
 
 /// The price of an induced instance depends on its upload by the row alone.
@@ -28,7 +29,8 @@ pub fn price_grows()
     ensures grows { (r : Rule) (ms ns : List ℕ) → AllZip (λ m n. m ≤ n) ms ns → rule_cost r ms ≤ rule_cost r ns }
 {}
 
-/// The price of an instance by numbers that are derivable is derivable: the children's derivations are put together.
+/// The price of an instance by numbers that are derivable is derivable: the children's derivations are joined under its
+/// rule.
 pub fn prices_are_derivable()
     ensures { (frame : Top) (uploads : List Upload) (bounds : Triple → ℕ) (c : Triple) (r : Rule)
         → AreUploads frame uploads

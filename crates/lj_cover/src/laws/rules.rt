@@ -3,10 +3,13 @@ ghost use Rattle.std.specs.List.{AllByRecursion, AllZip, flat_map, sum_by};
 ghost use Rattle.lj_base.specs.Blocks.{Covers};
 ghost use Rattle.lj_base.specs.Cells.{Triple};
 ghost use Rattle.lj_base.specs.Colex.{choose, sets};
-ghost use Rattle.lj_cover.specs.BlockLists.{add_blocks, ceil_div, cut_sizes, derived_blocks, derived2_blocks, drop_blocks, grow_blocks, induced_blocks, one_block, product_blocks, run_blocks};
+ghost use Rattle.lj_cover.specs.BlockLists.{add_blocks, ceil_div, cut_sizes, derived_blocks, derived2_blocks};
+ghost use Rattle.lj_cover.specs.BlockLists.{drop_blocks, grow_blocks, induced_blocks, one_block, product_blocks};
+ghost use Rattle.lj_cover.specs.BlockLists.{run_blocks};
 ghost use Rattle.lj_cover.specs.Derivations.{IsSound};
 ghost use Rattle.lj_cover.specs.Instances.{IsStep};
-ghost use Rattle.lj_cover.specs.Rules.{Chain, Part, Rule, Splits, part_cells, rule_blocks, rule_cell, rule_children, rule_cost, triple};
+ghost use Rattle.lj_cover.specs.Rules.{Chain, Part, Rule, Splits, part_cells, rule_blocks, rule_cell, rule_children};
+ghost use Rattle.lj_cover.specs.Rules.{rule_cost, triple};
 ghost use Rattle.lj_cover.specs.Sources.{IsBlockwise, gives, share, source};
 
 /// One block covers where sets have no point or a block has every point.
@@ -20,7 +23,7 @@ pub fn runs_cover()
     ensures counts { (v k : ℕ) → length (run_blocks v k) ≡ ceil_div v k }
 {}
 
-/// All blocks cover the sets as large as they.
+/// All blocks cover the sets that are as large as blocks.
 pub fn all_cover()
     ensures covers { (v k : ℕ) → Covers (sets v k) (triple v k k) }
     ensures counts { (v k : ℕ) → length (sets v k) ≡ choose v k }
@@ -84,8 +87,8 @@ pub fn rule_covers()
         → length (rule_blocks r lists) ≡ rule_cost r (map length lists) }
 {}
 
-/// A rule that goes through the blocks of an upload has, one after another, the blocks that each of them gives, and costs
-/// the sum of their shares. For the other rules the sum is 0.
+/// A rule that goes through the blocks of an upload has, one after another, the blocks that each of them gives, and
+/// costs the sum of their shares. For the other rules the sum is 0.
 pub fn blockwise_rules_join()
     ensures blocks { (r : Rule) (lists : List (List (List ℕ))) → IsBlockwise r
         → rule_blocks r lists ≡ flat_map (gives r lists) (source r) }
@@ -102,8 +105,8 @@ pub fn bases_have_no_children()
     ensures cost { (r : Rule) (ns : List ℕ) → (IsStep r → ⊥) → rule_cost r ns ≡ rule_cost r [] }
 {}
 
-/// The parts of a chain lie between its ends, in order, and serve each number between them; two chains of which the second
-/// begins after the first are one.
+/// The parts of a chain lie between its ends, the last reaches the upper end, and there are at most as many parts as
+/// numbers; two chains of which the second begins after the first are one.
 pub fn chains_have_ends()
     ensures order { (lo hi : ℕ) (parts : List Part) → Chain lo hi parts → lo ≤ hi + 1 }
     ensures within { (lo hi : ℕ) (parts : List Part) → Chain lo hi parts

@@ -1,4 +1,4 @@
-use Rattle.lj_cover.proofs.Cutting.{both_are_tested, point_is_tested}
+use Rattle.lj_cover.proofs.CutsOfBlocks.{both_are_tested, point_is_tested}
 use Rattle.lj_cover.proofs.laws.cuts.points_are_tested.Goals as goal
 
 pub returns-clause-point : goal.returns-clause-point

@@ -1,4 +1,4 @@
-use Rattle.lj_cover.proofs.Cutting.{Ascends-cut, length-cut, length-cut_below, points_of_cut}
+use Rattle.lj_cover.proofs.CutsOfBlocks.{Ascends-cut, length-cut, length-cut_below, points_of_cut}
 use Rattle.lj_cover.proofs.laws.cuts.points_of_cuts.Goals as goal
 
 pub returns-clause-points : goal.returns-clause-points

@@ -1,6 +1,6 @@
 use Rattle.std.proofs.Common.{sym}
-use Rattle.lj_cover.proofs.Expanding.{expand_counts, expand_covers}
-use Rattle.lj_cover.proofs.Leasts.{derivable_covering}
+use Rattle.lj_cover.proofs.RulesCover.{expand_counts, expand_covers}
+use Rattle.lj_cover.proofs.LeastCosts.{derivable_covering}
 use Rattle.lj_cover.proofs.laws.derivations.expansion_covers.Goals as goal
 
 pub returns-clause-covers : goal.returns-clause-covers

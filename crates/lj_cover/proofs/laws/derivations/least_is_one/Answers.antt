@@ -1,4 +1,4 @@
-use Rattle.lj_cover.proofs.Leasts.{least_by_members, least_one}
+use Rattle.lj_cover.proofs.LeastCosts.{least_by_members, least_one}
 use Rattle.lj_cover.proofs.laws.derivations.least_is_one.Goals as goal
 
 pub returns-clause-one : goal.returns-clause-one

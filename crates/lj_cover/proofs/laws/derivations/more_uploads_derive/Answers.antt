@@ -1,4 +1,5 @@
-use Rattle.lj_cover.proofs.MoreUploads.{derivable_from_appended, derivable_from_more, instance_from_more, least_falls, rule_from_more, tree_from_more}
+use Rattle.lj_cover.proofs.MoreUploads.{derivable_from_appended, derivable_from_more, instance_from_more, least_falls}
+use Rattle.lj_cover.proofs.MoreUploads.{rule_from_more, tree_from_more}
 use Rattle.lj_cover.proofs.laws.derivations.more_uploads_derive.Goals as goal
 
 pub returns-clause-rule : goal.returns-clause-rule

@@ -1,5 +1,5 @@
-use Rattle.lj_cover.proofs.Degrees.{schonheim_bounds}
-use Rattle.lj_cover.proofs.Leasts.{schonheim_derivable}
+use Rattle.lj_cover.proofs.LowerNumber.{schonheim_bounds}
+use Rattle.lj_cover.proofs.LeastCosts.{schonheim_derivable}
 use Rattle.lj_cover.proofs.laws.derivations.schonheim_bounds.Goals as goal
 
 pub returns-clause-covering : goal.returns-clause-covering

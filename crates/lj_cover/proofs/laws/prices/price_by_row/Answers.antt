@@ -1,4 +1,4 @@
-use Rattle.lj_cover.proofs.Pricing.{price_by_row, price_of_row}
+use Rattle.lj_cover.proofs.PricesByRow.{price_by_row, price_of_row}
 use Rattle.lj_cover.proofs.laws.prices.price_by_row.Goals as goal
 
 pub returns-clause-by_row : goal.returns-clause-by_row

@@ -1,4 +1,4 @@
-use Rattle.lj_cover.proofs.Growing.{price_at_least, rule_cost-grows}
+use Rattle.lj_cover.proofs.PricesGrow.{price_at_least, rule_cost-grows}
 use Rattle.lj_cover.proofs.laws.prices.price_grows.Goals as goal
 
 pub returns-clause-at_least : goal.returns-clause-at_least

@@ -1,4 +1,4 @@
-use Rattle.lj_cover.proofs.Reading.{children_are_read, read_somewhere}
+use Rattle.lj_cover.proofs.CellsRead.{children_are_read, read_somewhere}
 use Rattle.lj_cover.proofs.laws.prices.reads_are_children.Goals as goal
 
 pub returns-clause-each : goal.returns-clause-each

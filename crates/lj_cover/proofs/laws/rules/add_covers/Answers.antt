@@ -1,4 +1,4 @@
-use Rattle.lj_cover.proofs.Elementary.{add_covers}
+use Rattle.lj_cover.proofs.ElementaryRules.{add_covers}
 use Rattle.lj_cover.proofs.laws.rules.add_covers.Goals as goal
 
 pub returns : goal.returns

@@ -1,5 +1,5 @@
-use Rattle.lj_base.proofs.Lists.{length-sets}
-use Rattle.lj_cover.proofs.Bases.{all_cover}
+use Rattle.lj_base.proofs.Ascending.{length-sets}
+use Rattle.lj_cover.proofs.BasesCover.{all_cover}
 use Rattle.lj_cover.proofs.laws.rules.all_cover.Goals as goal
 
 pub returns-clause-covers : goal.returns-clause-covers

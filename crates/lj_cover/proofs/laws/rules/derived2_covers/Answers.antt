@@ -1,4 +1,4 @@
-use Rattle.lj_cover.proofs.Removing.{derived2_covers}
+use Rattle.lj_cover.proofs.DerivedRules.{derived2_covers}
 use Rattle.lj_cover.proofs.laws.rules.derived2_covers.Goals as goal
 
 pub returns : goal.returns

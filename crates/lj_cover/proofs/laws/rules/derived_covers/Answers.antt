@@ -1,4 +1,4 @@
-use Rattle.lj_cover.proofs.Removing.{derived_covers}
+use Rattle.lj_cover.proofs.DerivedRules.{derived_covers}
 use Rattle.lj_cover.proofs.laws.rules.derived_covers.Goals as goal
 
 pub returns : goal.returns

@@ -1,4 +1,4 @@
-use Rattle.lj_cover.proofs.Elementary.{drop_covers}
+use Rattle.lj_cover.proofs.ElementaryRules.{drop_covers}
 use Rattle.lj_cover.proofs.laws.rules.drop_covers.Goals as goal
 
 pub returns : goal.returns

@@ -1,4 +1,4 @@
-use Rattle.lj_cover.proofs.Elementary.{grow_covers}
+use Rattle.lj_cover.proofs.ElementaryRules.{grow_covers}
 use Rattle.lj_cover.proofs.laws.rules.grow_covers.Goals as goal
 
 pub returns : goal.returns

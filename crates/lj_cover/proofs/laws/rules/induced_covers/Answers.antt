@@ -1,4 +1,4 @@
-use Rattle.lj_cover.proofs.Inducing.{induced_covers}
+use Rattle.lj_cover.proofs.InducedRule.{induced_covers}
 use Rattle.lj_cover.proofs.laws.rules.induced_covers.Goals as goal
 
 pub returns : goal.returns

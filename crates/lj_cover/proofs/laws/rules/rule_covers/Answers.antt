@@ -1,5 +1,5 @@
 use Rattle.std.proofs.Common.{sym}
-use Rattle.lj_cover.proofs.Expanding.{rule_counts, rule_covers}
+use Rattle.lj_cover.proofs.RulesCover.{rule_counts, rule_covers}
 use Rattle.lj_cover.proofs.laws.rules.rule_covers.Goals as goal
 
 pub returns-clause-covers : goal.returns-clause-covers

@@ -1,4 +1,4 @@
-use Rattle.lj_cover.proofs.Bases.{length-run_blocks, runs_cover}
+use Rattle.lj_cover.proofs.BasesCover.{length-run_blocks, runs_cover}
 use Rattle.lj_cover.proofs.laws.rules.runs_cover.Goals as goal
 
 pub returns-clause-covers : goal.returns-clause-covers

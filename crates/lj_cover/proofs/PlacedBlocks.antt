@@ -1,34 +1,20 @@
 -- Placing a block on the points of another, and the places of points within an ascending list.
-use Rattle.std.proofs.Common.{◌≡◌, ℕ, zero, suc, ◌<◌, ◌≤◌, List, [], ◌∷◌, length, map, get_or, refl, sym, ap, ◌∙◌, arith, ⊎_elim}
+use Rattle.std.proofs.Common.{◌≡◌, ℕ, suc, ◌<◌, ◌≤◌, List, [], ◌∷◌, length, map, get_or, refl, sym, ap, ◌∙◌, arith}
+use Rattle.std.proofs.Common.{⊎_elim}
 use Rattle.std.proofs.lemmas.Bool.{cases_eq}
 use Rattle.std.proofs.lemmas.List.{length-map}
 use Rattle.lj_base.specs.Blocks.{Ascends, IsBlock, Has, Within}
+use Rattle.lj_base.proofs.Ascending.{Ascends-get_or_below, Ascends-get_or_lt, Ascends-wider, Has-from, length-ascending}
 use Rattle.lj_cover.specs.Operations.{place}
-use Rattle.lj_cover.proofs.Points.{Ascends-wider, from-Has, length-ascending}
 
--- the points of an ascending list, by their places
-get_or-from : (lo v : ℕ) (q : List ℕ) (i : ℕ) → i < length q → Ascends lo v q → lo ≤ get_or q i 0
-get_or-from lo v [] i inside h = absurd (omega arith)
-get_or-from lo v (x ∷ xs) zero inside h = h.0
-get_or-from lo v (x ∷ xs) (suc i) inside h = let later = get_or-from (suc x) v xs i (omega arith) h.2 in omega (arith, h.0)
-
-pub get_or-below : (lo v : ℕ) (q : List ℕ) (i : ℕ) → i < length q → Ascends lo v q → get_or q i 0 < v
-get_or-below lo v [] i inside h = absurd (omega arith)
-get_or-below lo v (x ∷ xs) zero inside h = h.1
-get_or-below lo v (x ∷ xs) (suc i) inside h = get_or-below (suc x) v xs i (omega arith) h.2
-
-pub get_or-ascends : (lo v : ℕ) (q : List ℕ) (i j : ℕ) → i < j → j < length q → Ascends lo v q → get_or q i 0 < get_or q j 0
-get_or-ascends lo v [] i j less inside h = absurd (omega arith)
-get_or-ascends lo v (x ∷ xs) i zero less inside h = absurd (omega arith)
-get_or-ascends lo v (x ∷ xs) zero (suc j) less inside h = get_or-from (suc x) v xs j (omega arith) h.2
-get_or-ascends lo v (x ∷ xs) (suc i) (suc j) less inside h = get_or-ascends (suc x) v xs i j (omega arith) (omega arith) h.2
-
-place_ascends : (q : List ℕ) (m lo low v : ℕ) (b : List ℕ) → ((i : ℕ) → m ≤ i → i < length q → lo ≤ get_or q i 0) → Ascends low v q → Ascends m (length q) b → Ascends lo v (place q b)
+place_ascends : (q : List ℕ) (m lo low v : ℕ) (b : List ℕ) → ((i : ℕ) → m ≤ i → i < length q → lo ≤ get_or q i 0)
+    → Ascends low v q → Ascends m (length q) b → Ascends lo v (place q b)
 place_ascends q m lo low v [] from h k = tt
 place_ascends q m lo low v (i ∷ is) from h k = (
   from i k.0 k.1,
-  get_or-below low v q i k.1 h,
-  place_ascends q (suc i) (suc (get_or q i 0)) low v is (λ j above inside. get_or-ascends low v q i j above inside h) h k.2,
+  Ascends-get_or_below low v q i h k.1,
+  place_ascends q (suc i) (suc (get_or q i 0)) low v is
+      (λ j above inside. Ascends-get_or_lt low v q i j h above inside) h k.2,
 )
 
 -- a block placed on the points of a set of its size
@@ -53,8 +39,11 @@ place-next x xs (i ∷ is) = ap (λ r. get_or xs i 0 ∷ r) (place-next x xs is)
 -- what a list from x on has is in the rest of the list where that begins before
 Within-rest : (x lo v : ℕ) (s ys : List ℕ) → x < lo → Ascends lo v s → Within s (x ∷ ys) → Within s ys
 Within-rest x lo v [] ys below h within = tt
-Within-rest x lo v (z ∷ zs) ys below h within =
-    (⊎_elim (λ e. absurd (omega (arith, e, h.0))) (λ r. r) within.0, Within-rest x (suc z) v zs ys (omega (arith, h.0)) h.2 within.1)
+Within-rest x lo v (z ∷ zs) ys below h within = (
+  ⊎_elim (λ e. absurd (omega (arith, e, h.0))) (λ r. r) within.0,
+  Within-rest x (suc z) v zs ys
+      (omega (arith, h.0)) h.2 within.1,
+)
 
 pub places_of : (lo low v w : ℕ) (q s : List ℕ) → Ascends lo v q → Ascends low w s → Within s q → Places q s
 places_of lo low v w [] [] h k within = record { places = []; ascends = tt; is = refl }
@@ -63,17 +52,21 @@ places_of lo low v w (y ∷ ys) [] h k within = record { places = []; ascends = 
 places_of lo low v w (y ∷ ys) (x ∷ xs) h k within =
     ⊎_elim
     (λ same.
-    let rest = places_of (suc y) (suc x) v w ys xs h.2 k.2 (Within-rest y (suc x) w xs ys (omega (arith, same)) k.2 within.1) in record {
+    let rest = places_of (suc y) (suc x) v w ys xs h.2 k.2
+    (Within-rest y (suc x) w xs ys (omega (arith, same)) k.2 within.1) in record {
       places = 0 ∷ map suc rest.places;
       ascends = (omega arith, omega arith, Ascends-next 0 (length ys) rest.places rest.ascends);
-      is = ap (λ z. z ∷ place (y ∷ ys) (map suc rest.places)) same ∙ ap (λ r. x ∷ r) (place-next y ys rest.places ∙ rest.is);
+      is = ap (λ z. z ∷ place (y ∷ ys) (map suc rest.places)) same ∙ ap (λ r. x ∷ r)
+          (place-next y ys rest.places ∙ rest.is);
     })
     (λ other.
     let later : Has ys x = ⊎_elim (λ e. absurd (other e)) (λ r. r) within.0 in
-    let below = from-Has (suc y) v ys x h.2 later in
-    let rest = places_of (suc y) x v w ys (x ∷ xs) h.2 (omega arith, k.1, k.2) (later, Within-rest y (suc x) w xs ys (omega arith) k.2 within.1) in record {
+    let below = Has-from (suc y) v x ys h.2 later in
+    let rest = places_of (suc y) x v w ys (x ∷ xs) h.2 (omega arith, k.1, k.2)
+    (later, Within-rest y (suc x) w xs ys (omega arith) k.2 within.1) in record {
       places = map suc rest.places;
-      ascends = Ascends-wider 1 0 (suc (length ys)) (suc (length ys)) (map suc rest.places) (omega arith) (omega arith) (Ascends-next 0 (length ys) rest.places rest.ascends);
+      ascends = Ascends-wider 1 0 (suc (length ys)) (suc (length ys)) (map suc rest.places) (omega arith) (omega arith)
+          (Ascends-next 0 (length ys) rest.places rest.ascends);
       is = place-next y ys rest.places ∙ rest.is;
     })
     (cases_eq y x)
@@ -82,7 +75,8 @@ pub length-places : (q s : List ℕ) (p : Places q s) → length p.places ≡ le
 length-places q s p = sym (length-map p.places (λ i. get_or q i 0)) ∙ ap length p.is
 
 -- a set within a block has at most as many points
-pub length-Within : (lo low v w : ℕ) (q s : List ℕ) → Ascends lo v q → Ascends low w s → Within s q → length s ≤ length q
+pub length-Within : (lo low v w : ℕ) (q s : List ℕ) → Ascends lo v q → Ascends low w s → Within s q
+    → length s ≤ length q
 length-Within lo low v w q s h k within =
     let p = places_of lo low v w q s h k within in
     omega (arith, length-places q s p, length-ascending 0 (length q) p.places (omega arith) p.ascends)

@@ -1,6 +1,8 @@
 -- What a cell reads is just what its instances have as children.
-use Rattle.std.proofs.Common.{◌≡◌, ℕ, zero, suc, ◌+◌, ◌-◌, ◌<◌, ◌≤◌, min, max, true, cond, eqb, List, [], ◌∷◌, length, map, refl, sym, ap, subst, arith, inl, inr, ⊎_elim}
-use Rattle.std.proofs.lemmas.Bool.{cond_both, cond-true, cases_eq, eqb-true, eq-eqb, false≢true, or_cases, or_left, or_right}
+use Rattle.std.proofs.Common.{◌≡◌, ℕ, zero, suc, ◌+◌, ◌-◌, ◌<◌, ◌≤◌, min, max, true, cond, eqb, List, [], ◌∷◌, length}
+use Rattle.std.proofs.Common.{map, refl, sym, ap, subst, arith, inl, inr, ⊎_elim}
+use Rattle.std.proofs.lemmas.Bool.{cond_both, cond-true, cases_eq, eqb-true, eq-eqb, false≢true, or_cases, or_left}
+use Rattle.std.proofs.lemmas.Bool.{or_right}
 use Rattle.std.proofs.lemmas.List.Elements.{All-contains, All-from_recursion}
 use Rattle.std.proofs.lemmas.List.FromFn.{length-range_with_len}
 use Rattle.std.specs.List.{AllByRecursion, Contains, filter, flat_map, list_any, range_with_len}
@@ -8,50 +10,62 @@ use Rattle.lj_base.specs.Cells.{IsCell, Triple}
 use Rattle.lj_base.specs.Blocks.{AreBlocks, Covers, Has, IsBlock, SomeContains}
 use Rattle.lj_base.specs.Colex.{sets}
 use Rattle.lj_base.specs.Frames.{InFrame, Top}
+use Rattle.lj_base.proofs.Ascending.{Ascends-range, Ascends-wider, Has-range, SomeContains-smaller}
 use Rattle.lj_cover.specs.Operations.{cut, fill}
 use Rattle.lj_cover.specs.BlockLists.{cut_sizes}
-use Rattle.lj_cover.specs.Rules.{Rule, Upload, Part, One, Runs, All, Leaf, Derived, Derived2, Drop, Add, Grow, Lower, Product, Induced, Chain, PartFits, IsCovering, rule_cell, rule_children, part_cells, triple}
-use Rattle.lj_cover.specs.Instances.{AreUploads, IsInstance, ReadSomewhere, Reads, by_add, by_drop, by_grow, by_induced, by_lower, by_product}
+use Rattle.lj_cover.specs.Rules.{Rule, Upload, Part, One, Runs, All, Leaf, Derived, Derived2, Drop, Add, Grow, Lower}
+use Rattle.lj_cover.specs.Rules.{Product, Induced, Chain, PartFits, IsCovering, rule_cell, rule_children, part_cells}
+use Rattle.lj_cover.specs.Rules.{triple}
+use Rattle.lj_cover.specs.Instances.{AreUploads, IsInstance, ReadSomewhere, Reads, by_add, by_drop, by_grow, by_induced}
+use Rattle.lj_cover.specs.Instances.{by_lower, by_product}
 use Rattle.lj_cover.proofs.PartsInOrder.{Chain-le}
-use Rattle.lj_cover.proofs.Points.{Ascends-wider, SomeContains-smaller}
-use Rattle.lj_cover.proofs.Filling.{Has-fill, IsBlock-fill}
-use Rattle.lj_cover.proofs.Cutting.{Ascends-cut, Within-cut, length-cut}
-use Rattle.lj_cover.proofs.Placing.{length-Within}
-use Rattle.lj_cover.proofs.Inducing.{Has-filter, Has-range}
-use Rattle.lj_cover.proofs.Bases.{Ascends-range, all_cover}
+use Rattle.lj_cover.proofs.FilledBlocks.{Has-fill, IsBlock-fill}
+use Rattle.lj_cover.proofs.CutsOfBlocks.{Ascends-cut, Within-cut, length-cut}
+use Rattle.lj_cover.proofs.PlacedBlocks.{length-Within}
+use Rattle.lj_cover.proofs.InducedRule.{Has-filter}
+use Rattle.lj_cover.proofs.BasesCover.{all_cover}
 
-part_cells_read : (frame : Top) (c : Triple) (v1 lo hi : ℕ) (parts : List Part) → 1 ≤ v1 → v1 < c.v → hi ≤ c.t → Chain lo hi parts → AllByRecursion (PartFits c v1) parts
+part_cells_read : (frame : Top) (c : Triple) (v1 lo hi : ℕ) (parts : List Part) → 1 ≤ v1 → v1 < c.v → hi ≤ c.t
+    → Chain lo hi parts → AllByRecursion (PartFits c v1) parts
     → AllByRecursion (Reads frame c) (flat_map (part_cells c v1) parts)
 part_cells_read frame c v1 lo hi [] some split most chain fits = tt
 part_cells_read frame c v1 lo hi (p ∷ ps) some split most chain fits =
     let last = Chain-le (p.b + 1) hi ps chain.2 in
     let fit = fits.0 in
     let order = chain.1 in (
-      by_product split (omega (arith, fit.second_sets)) (omega arith) (omega (arith, fit.second_sets)) (omega (arith, fit.second_blocks)),
+      by_product split (omega (arith, fit.second_sets)) (omega arith) (omega (arith, fit.second_sets))
+          (omega (arith, fit.second_blocks)),
       (
-        by_product (omega arith) (omega arith) (omega arith) (omega (arith, fit.second_sets, fit.first_sets)) (omega (arith, fit.second_sets, fit.first_blocks)),
+        by_product (omega arith) (omega arith) (omega arith) (omega (arith, fit.second_sets, fit.first_sets))
+            (omega (arith, fit.second_sets, fit.first_blocks)),
         part_cells_read frame c v1 (p.b + 1) hi ps some split most chain.2 fits.1,
       ),
     )
 
 -- a test that some block passes, each of which has at most m points, is of at most m
-size_of_some : (v m w l : ℕ) (bs : List (List ℕ)) → AreBlocks v m bs → list_any (λ b. eqb (length (cut w b)) l) bs ≡ true → l ≤ m
+size_of_some : (v m w l : ℕ) (bs : List (List ℕ)) → AreBlocks v m bs
+    → list_any (λ b. eqb (length (cut w b)) l) bs ≡ true → l ≤ m
 size_of_some v m w l [] h some = absurd (false≢true some)
 size_of_some v m w l (b ∷ bs) h some =
-    ⊎_elim (λ (e : eqb (length (cut w b)) l ≡ true). omega (arith, eqb-true (length (cut w b)) l e, length-cut w b, h.0.1))
+    ⊎_elim (λ (e : eqb (length (cut w b)) l ≡ true). omega
+    (arith, eqb-true (length (cut w b)) l e, length-cut w b, h.0.1))
     (λ rest. size_of_some v m w l bs h.1 rest) (or_cases _ _ some)
 
-sizes_read : (frame : Top) (c : Triple) (v m : ℕ) (bs : List (List ℕ)) (lo n : ℕ) → AreBlocks v m bs → m ≤ frame.top.k → c.k < lo → lo + n ≤ suc c.v
-    → AllByRecursion (Reads frame c) (map (λ l. triple l c.k c.t) (filter (λ l. list_any (λ b. eqb (length (cut c.v b)) l) bs) (range_with_len lo n)))
+sizes_read : (frame : Top) (c : Triple) (v m : ℕ) (bs : List (List ℕ)) (lo n : ℕ) → AreBlocks v m bs → m ≤ frame.top.k
+    → c.k < lo → lo + n ≤ suc c.v
+    → AllByRecursion (Reads frame c) (map (λ l. triple l c.k c.t)
+    (filter (λ l. list_any (λ b. eqb (length (cut c.v b)) l) bs) (range_with_len lo n)))
 sizes_read frame c v m bs lo zero h small from to = tt
 sizes_read frame c v m bs lo (suc n) h small from to =
     let rest = sizes_read frame c v m bs (lo + 1) n h small (omega arith) (omega arith) in
-    cond_both (list_any (λ b. eqb (length (cut c.v b)) lo) bs) _ _ (λ ls. AllByRecursion (Reads frame c) (map (λ l. triple l c.k c.t) ls))
+    cond_both (list_any (λ b. eqb (length (cut c.v b)) lo) bs) _ _
+    (λ ls. AllByRecursion (Reads frame c) (map (λ l. triple l c.k c.t) ls))
     (λ some. let most = size_of_some v m c.v lo bs h some in (by_induced refl from (omega arith) (omega arith), rest))
     (λ none. rest)
 
 -- each child of an instance is read
-pub children_are_read : (frame : Top) (uploads : List Upload) (c : Triple) (r : Rule) → AreUploads frame uploads → IsInstance frame uploads c r → AllByRecursion (Reads frame c) (rule_children r)
+pub children_are_read : (frame : Top) (uploads : List Upload) (c : Triple) (r : Rule) → AreUploads frame uploads
+    → IsInstance frame uploads c r → AllByRecursion (Reads frame c) (rule_children r)
 children_are_read frame uploads c r covering i =
     subst (λ d. AllByRecursion (Reads frame d) (rule_children r)) i.cell_is (each r i)
   where
@@ -67,13 +81,16 @@ children_are_read frame uploads c r covering i =
     each (Grow d) i = (by_grow refl i.condition.0, tt)
     each (Lower d) i = (by_lower refl i.condition, tt)
     each (Product d v1 parts) i =
-        part_cells_read frame d v1 _ (min d.t v1) parts i.condition.first_side i.condition.second_side (omega arith) i.condition.chain i.condition.fits
+        part_cells_read frame d v1 _ (min d.t v1) parts i.condition.first_side i.condition.second_side
+        (omega arith) i.condition.chain i.condition.fits
     each (Induced u w k) i =
         let facts = All-contains (λ u. IsCovering u × InFrame frame u.cell) uploads u covering i.upload_from in
-        sizes_read frame (triple w k u.cell.t) u.cell.v u.cell.k u.blocks (suc k) (w - k) facts.0.covers.blocks facts.1.k (omega arith) (omega (arith, i.condition.1))
+        sizes_read frame (triple w k u.cell.t) u.cell.v u.cell.k u.blocks (suc k)
+        (w - k) facts.0.covers.blocks facts.1.k (omega arith) (omega (arith, i.condition.1))
 
 -- one instance with one child
-single : (frame : Top) (c d : Triple) (r : Rule) → IsInstance frame [] c r → rule_children r ≡ d ∷ [] → ReadSomewhere frame c d
+single : (frame : Top) (c d : Triple) (r : Rule) → IsInstance frame [] c r → rule_children r ≡ d ∷ []
+    → ReadSomewhere frame c d
 single frame c d r i only = record {
   uploads = [];
   rule = r;
@@ -82,16 +99,22 @@ single frame c d r i only = record {
   has_child = subst (λ cs. Contains cs d) (sym only) (0, omega arith, refl);
 }
 
--- one part for each number of points from lo on, n of them: the part for j has l blocks' points, the others as few as they can
+-- one part for each number of points from lo on, n of them: the part for j has l blocks' points, the others as few as
+-- they can
 abbrev single_parts : Triple → ℕ → ℕ → ℕ → ℕ → ℕ → List Part
 single_parts c v1 j l lo zero = []
-single_parts c v1 j l lo (suc n) = (record { a = lo; b = lo; l = cond (eqb lo j) l (max lo (c.k - (c.v - v1))) }) ∷ single_parts c v1 j l (suc lo) n
+single_parts c v1 j l lo (suc n) =
+    (record { a = lo; b = lo; l = cond (eqb lo j) l (max lo (c.k - (c.v - v1))) }) ∷ single_parts c v1 j l (suc lo) n
 
 single_parts_chain : (c : Triple) (v1 j l lo n hi : ℕ) → lo + n ≡ hi + 1 → Chain lo hi (single_parts c v1 j l lo n)
 single_parts_chain c v1 j l lo zero hi e = omega arith
 single_parts_chain c v1 j l lo (suc n) hi e =
-    let next : suc lo ≡ lo + 1 = omega arith in
-    (refl, omega arith, subst (λ m. Chain m hi (single_parts c v1 j l (suc lo) n)) next (single_parts_chain c v1 j l (suc lo) n hi (omega arith)))
+    let next : suc lo ≡ lo + 1 = omega arith in (
+      refl,
+      omega arith,
+      subst (λ m. Chain m hi (single_parts c v1 j l (suc lo) n)) next
+          (single_parts_chain c v1 j l (suc lo) n hi (omega arith)),
+    )
 
 -- a first factor of j points in sets and l in blocks is possible beside v1 points
 record IsFactor (frame : Top) (c : Triple) (v1 j l : ℕ) : Type 0 where
@@ -104,18 +127,35 @@ record IsFactor (frame : Top) (c : Triple) (v1 j l : ℕ) : Type 0 where
   other_blocks : c.k ≤ l + (c.v - v1)
 
 -- both cells of a part that fits are in the frame
-part_cells_inside : (frame : Top) (c : Triple) (v1 i l : ℕ) → IsFactor frame c v1 i l → i ≤ c.t → AllByRecursion (InFrame frame) (part_cells c v1 (record { a = i; b = i; l = l }))
+part_cells_inside : (frame : Top) (c : Triple) (v1 i l : ℕ) → IsFactor frame c v1 i l → i ≤ c.t
+    → AllByRecursion (InFrame frame) (part_cells c v1 (record { a = i; b = i; l = l }))
 part_cells_inside frame c v1 i l f most =
     let limits = f.reader.cell in (
       record {
-        cell = (f.some, omega (arith, limits.1, f.split), f.sets, f.blocks, omega (arith, limits.4, f.other_sets), omega (arith, limits.5));
+        cell = (
+          f.some,
+          omega (arith, limits.1, f.split),
+          f.sets,
+          f.blocks,
+          omega
+              (arith, limits.4, f.other_sets),
+          omega (arith, limits.5),
+        );
         v = omega (arith, f.split, f.reader.v);
         k = omega (arith, f.other_sets, f.reader.k);
         t = omega (arith, f.reader.t);
       },
       (
         record {
-          cell = (omega (arith, f.split), omega (arith, limits.1), omega (arith, f.other_sets), omega (arith, f.other_blocks), omega (arith, limits.4), omega (arith, limits.5));
+          cell = (
+            omega (arith, f.split),
+            omega (arith, limits.1),
+            omega (arith, f.other_sets),
+            omega
+                (arith, f.other_blocks),
+            omega (arith, limits.4),
+            omega (arith, limits.5),
+          );
           v = omega (arith, f.reader.v);
           k = omega (arith, f.reader.k);
           t = omega (arith, f.reader.t);
@@ -128,7 +168,8 @@ record SinglesFit (frame : Top) (c : Triple) (v1 : ℕ) (parts : List Part) : Ty
   fits : AllByRecursion (PartFits c v1) parts
   inside : AllByRecursion (InFrame frame) (flat_map (part_cells c v1) parts)
 
-single_parts_fit : (frame : Top) (c : Triple) (v1 j l lo n : ℕ) → IsFactor frame c v1 j l → c.t - (c.v - v1) ≤ lo → lo + n ≤ suc (min c.t v1) → SinglesFit frame c v1 (single_parts c v1 j l lo n)
+single_parts_fit : (frame : Top) (c : Triple) (v1 j l lo n : ℕ) → IsFactor frame c v1 j l → c.t - (c.v - v1) ≤ lo
+    → lo + n ≤ suc (min c.t v1) → SinglesFit frame c v1 (single_parts c v1 j l lo n)
 single_parts_fit frame c v1 j l lo zero f from to = record { fits = tt; inside = tt }
 single_parts_fit frame c v1 j l lo (suc n) f from to =
     let rest = single_parts_fit frame c v1 j l (suc lo) n f (omega arith) (omega arith) in
@@ -148,14 +189,24 @@ single_parts_fit frame c v1 j l lo (suc n) f from to =
     }) in
     let inside = part_cells_inside frame c v1 lo size here (omega arith) in
     record {
-      fits = (record { first_sets = here.sets; first_blocks = here.blocks; second_sets = here.other_sets; second_blocks = here.other_blocks }, rest.fits);
+      fits = (
+        record {
+          first_sets = here.sets;
+          first_blocks = here.blocks;
+          second_sets =
+              here.other_sets;
+          second_blocks = here.other_blocks;
+        },
+        rest.fits,
+      );
       inside = (inside.0, (inside.1.0, rest.inside));
     }
 
 Contains-later : {X : Type 0} (y x : X) (xs : List X) → Contains xs x → Contains (y ∷ xs) x
 Contains-later y x xs h = (suc h.0, omega (arith, h.1), h.2)
 
-single_parts_have : (c : Triple) (v1 j l lo n : ℕ) → lo ≤ j → j < lo + n → Contains (flat_map (part_cells c v1) (single_parts c v1 j l lo n)) (triple v1 l j)
+single_parts_have : (c : Triple) (v1 j l lo n : ℕ) → lo ≤ j → j < lo + n
+    → Contains (flat_map (part_cells c v1) (single_parts c v1 j l lo n)) (triple v1 l j)
 single_parts_have c v1 j l lo zero from to = absurd (omega arith)
 single_parts_have c v1 j l lo (suc n) from to =
     ⊎_elim
@@ -170,7 +221,8 @@ single_parts_have c v1 j l lo (suc n) from to =
     (Contains-later second (triple v1 l j) rest (single_parts_have c v1 j l (suc lo) n (omega arith) (omega arith))))
     (cases_eq lo j)
 
-read_by_product : (frame : Top) (c d : Triple) → InFrame frame c → InFrame frame d → d.v < c.v → d.k ≤ c.k → d.t ≤ c.t → c.t - d.t ≤ c.k - d.k → c.k - d.k ≤ c.v - d.v → ReadSomewhere frame c d
+read_by_product : (frame : Top) (c d : Triple) → InFrame frame c → InFrame frame d → d.v < c.v → d.k ≤ c.k → d.t ≤ c.t
+    → c.t - d.t ≤ c.k - d.k → c.k - d.k ≤ c.v - d.v → ReadSomewhere frame c d
 read_by_product frame c d reader child split blocks sets other_sets other_blocks =
     let own = child.cell in
     let lo = c.t - (c.v - d.v) in
@@ -179,7 +231,16 @@ read_by_product frame c d reader child split blocks sets other_sets other_blocks
     let limits = reader.cell in
     let whole : lo + n ≡ min c.t d.v + 1 = omega (arith, limits.2, limits.3) in
     let factor : IsFactor frame c d.v d.t d.k =
-    record { reader = reader; some = own.0; split = split; sets = own.2; blocks = own.3; other_sets = omega arith; other_blocks = omega arith } in
+    record {
+      reader = reader;
+      some = own.0;
+      split = split;
+      sets = own.2;
+      blocks = own.3;
+      other_sets =
+          omega arith;
+      other_blocks = omega arith;
+    } in
     let fit = single_parts_fit frame c d.v d.t d.k lo n factor (omega arith) (omega arith) in
     record {
       uploads = [];
@@ -188,7 +249,13 @@ read_by_product frame c d reader child split blocks sets other_sets other_blocks
       instance = record {
         step = tt;
         cell_is = refl;
-        condition = record { first_side = own.0; second_side = split; chain = single_parts_chain c d.v d.t d.k lo n (min c.t d.v) whole; fits = fit.fits };
+        condition = record {
+          first_side = own.0;
+          second_side = split;
+          chain = single_parts_chain c d.v d.t d.k lo n
+              (min c.t d.v) whole;
+          fits = fit.fits;
+        };
         children_inside = fit.inside;
         upload_from = tt;
       };
@@ -200,10 +267,12 @@ sets_cover : (v l t : ℕ) → t ≤ l → l ≤ v → Covers (sets v l) (triple
 sets_cover v l t small room = record {
   blocks = (all_cover v l).blocks;
   sets = λ s set.
-      SomeContains-smaller (sets v l) s (fill l s) (Has-fill l s) ((all_cover v l).sets (fill l s) (IsBlock-fill v l s (omega (arith, set.1)) room set.0));
+      SomeContains-smaller (sets v l) s (fill l s) (Has-fill l s)
+      ((all_cover v l).sets (fill l s) (IsBlock-fill v l s (omega (arith, set.1)) room set.0));
 }
 
-some_cut : (v w l : ℕ) (bs : List (List ℕ)) → l ≤ w → AreBlocks v l bs → SomeContains bs (range_with_len 0 l) → list_any (λ b. eqb (length (cut w b)) l) bs ≡ true
+some_cut : (v w l : ℕ) (bs : List (List ℕ)) → l ≤ w → AreBlocks v l bs → SomeContains bs (range_with_len 0 l)
+    → list_any (λ b. eqb (length (cut w b)) l) bs ≡ true
 some_cut v w l [] room h some = absurd some
 some_cut v w l (b ∷ bs) room h (inl here) =
     let row = range_with_len 0 l in
@@ -215,14 +284,26 @@ some_cut v w l (b ∷ bs) room h (inl here) =
 some_cut v w l (b ∷ bs) room h (inr rest) = or_right _ _ (some_cut v w l bs room h.1 rest)
 
 -- the sizes of cuts, as cells, are in the frame
-pub sizes_inside : (frame : Top) (c : Triple) (bs : List (List ℕ)) (lo n : ℕ) → InFrame frame c → c.k < lo → lo + n ≤ suc c.v
-    → AllByRecursion (InFrame frame) (map (λ l. triple l c.k c.t) (filter (λ l. list_any (λ b. eqb (length (cut c.v b)) l) bs) (range_with_len lo n)))
+pub sizes_inside : (frame : Top) (c : Triple) (bs : List (List ℕ)) (lo n : ℕ) → InFrame frame c → c.k < lo
+    → lo + n ≤ suc c.v
+    → AllByRecursion (InFrame frame) (map (λ l. triple l c.k c.t)
+    (filter (λ l. list_any (λ b. eqb (length (cut c.v b)) l) bs) (range_with_len lo n)))
 sizes_inside frame c bs lo zero f from to = tt
 sizes_inside frame c bs lo (suc n) f from to =
     let rest = sizes_inside frame c bs (lo + 1) n f (omega arith) (omega arith) in
     let limits = f.cell in
-    cond_both (list_any (λ b. eqb (length (cut c.v b)) lo) bs) _ _ (λ ls. AllByRecursion (InFrame frame) (map (λ l. triple l c.k c.t) ls))
-    (λ some. (record { cell = (omega arith, omega (arith, limits.1), limits.2, omega arith, limits.4, limits.5); v = omega (arith, f.v); k = f.k; t = f.t }, rest))
+    cond_both (list_any (λ b. eqb (length (cut c.v b)) lo) bs) _ _
+    (λ ls. AllByRecursion (InFrame frame) (map (λ l. triple l c.k c.t) ls))
+    (λ some. (
+      record {
+        cell = (omega arith, omega (arith, limits.1), limits.2, omega arith, limits.4, limits.5);
+        v =
+            omega (arith, f.v);
+        k = f.k;
+        t = f.t;
+      },
+      rest,
+    ))
     (λ none. rest)
 
 Contains-from_Has : (f : ℕ → Triple) (xs : List ℕ) (x : ℕ) → Has xs x → Contains (map f xs) (f x)
@@ -230,10 +311,17 @@ Contains-from_Has f [] x has = absurd has
 Contains-from_Has f (y ∷ ys) x (inl e) = (0, omega arith, ap f e)
 Contains-from_Has f (y ∷ ys) x (inr rest) = Contains-later (f y) (f x) (map f ys) (Contains-from_Has f ys x rest)
 
-read_by_induced : (frame : Top) (c : Triple) (l : ℕ) → InFrame frame c → IsCell frame.top → c.k < l → l ≤ c.v → l ≤ frame.top.k → ReadSomewhere frame c (triple l c.k c.t)
+read_by_induced : (frame : Top) (c : Triple) (l : ℕ) → InFrame frame c → IsCell frame.top → c.k < l → l ≤ c.v
+    → l ≤ frame.top.k → ReadSomewhere frame c (triple l c.k c.t)
 read_by_induced frame c l reader whole more room size =
     let limits = reader.cell in
-    let u : Upload = record { client = []; ordinal = 0; cell = triple frame.top.v l c.t; blocks = sets frame.top.v l } in
+    let u : Upload = record {
+      client = [];
+      ordinal = 0;
+      cell = triple frame.top.v l c.t;
+      blocks =
+          sets frame.top.v l;
+    } in
     let covers = sets_cover frame.top.v l c.t (omega (arith, limits.2)) (omega (arith, reader.v)) in
     let inside : InFrame frame u.cell = record {
       cell = (whole.0, whole.1, omega (arith, limits.2), omega (arith, reader.v), omega (arith, whole.4), limits.5);
@@ -241,33 +329,72 @@ read_by_induced frame c l reader whole more room size =
       k = size;
       t = reader.t;
     } in
-    let here : IsBlock frame.top.v l (range_with_len 0 l) = (Ascends-wider 0 0 (0 + l) frame.top.v (range_with_len 0 l) (omega arith) (omega (arith, reader.v)) (Ascends-range 0 l), length-range_with_len 0 l) in
-    let occurs = some_cut frame.top.v c.v l (sets frame.top.v l) room covers.blocks ((all_cover frame.top.v l).sets (range_with_len 0 l) here) in
+    let here : IsBlock frame.top.v l (range_with_len 0 l) = (
+      Ascends-wider 0 0 (0 + l) frame.top.v (range_with_len 0 l) (omega arith) (omega (arith, reader.v))
+          (Ascends-range 0 l),
+      length-range_with_len 0 l,
+    ) in
+    let occurs = some_cut frame.top.v c.v l (sets frame.top.v l) room covers.blocks
+    ((all_cover frame.top.v l).sets (range_with_len 0 l) here) in
     record {
       uploads = u ∷ [];
       rule = Induced u c.v c.k;
-      are_uploads = All-from_recursion (λ a. IsCovering a × InFrame frame a.cell) (u ∷ []) ((record { in_limits = inside.cell; covers = covers }, inside), tt);
+      are_uploads = All-from_recursion (λ a. IsCovering a × InFrame frame a.cell) (u ∷ [])
+          ((record { in_limits = inside.cell; covers = covers }, inside), tt);
       instance = record {
         step = tt;
         cell_is = refl;
         condition = (limits.2, limits.3, reader.v);
-        children_inside = sizes_inside frame c (sets frame.top.v l) (suc c.k) (c.v - c.k) reader (omega arith) (omega (arith, limits.3));
+        children_inside = sizes_inside frame c (sets frame.top.v l) (suc c.k) (c.v - c.k) reader (omega arith)
+            (omega (arith, limits.3));
         upload_from = (0, omega arith, refl);
       };
       has_child = Contains-from_Has (λ m. triple m c.k c.t) (cut_sizes c.k c.v (sets frame.top.v l)) l
-          (Has-filter (λ m. list_any (λ b. eqb (length (cut c.v b)) m) (sets frame.top.v l)) (range_with_len (suc c.k) (c.v - c.k)) l occurs (Has-range (suc c.k) (c.v - c.k) l more (omega (arith, limits.3))));
+          (Has-filter (λ m. list_any (λ b. eqb (length (cut c.v b)) m) (sets frame.top.v l))
+          (range_with_len (suc c.k) (c.v - c.k)) l occurs
+          (Has-range (suc c.k) (c.v - c.k) l more (omega (arith, limits.3))));
     }
 
 -- each cell that is read is a child of some instance
-pub read_somewhere : (frame : Top) (c d : Triple) → IsCell frame.top → InFrame frame c → InFrame frame d → Reads frame c d → ReadSomewhere frame c d
+pub read_somewhere : (frame : Top) (c d : Triple) → IsCell frame.top → InFrame frame c → InFrame frame d
+    → Reads frame c d → ReadSomewhere frame c d
 read_somewhere frame c d whole reader child (by_drop e) =
-    single frame c d (Drop c) (record { step = tt; cell_is = refl; condition = reader.cell.3; children_inside = (subst (InFrame frame) e child, tt); upload_from = tt }) (ap (λ x. x ∷ []) (sym e))
+    single frame c d (Drop c) (record {
+      step = tt;
+      cell_is = refl;
+      condition = reader.cell.3;
+      children_inside =
+          (subst (InFrame frame) e child, tt);
+      upload_from = tt;
+    }) (ap (λ x. x ∷ []) (sym e))
 read_somewhere frame c d whole reader child (by_add e small) =
-    single frame c d (Add c) (record { step = tt; cell_is = refl; condition = small; children_inside = (subst (InFrame frame) e child, tt); upload_from = tt }) (ap (λ x. x ∷ []) (sym e))
+    single frame c d (Add c) (record {
+      step = tt;
+      cell_is = refl;
+      condition = small;
+      children_inside =
+          (subst (InFrame frame) e child, tt);
+      upload_from = tt;
+    }) (ap (λ x. x ∷ []) (sym e))
 read_somewhere frame c d whole reader child (by_grow e small) =
-    single frame c d (Grow c) (record { step = tt; cell_is = refl; condition = (small, reader.cell.3); children_inside = (subst (InFrame frame) e child, tt); upload_from = tt }) (ap (λ x. x ∷ []) (sym e))
+    single frame c d (Grow c) (record {
+      step = tt;
+      cell_is = refl;
+      condition =
+          (small, reader.cell.3);
+      children_inside = (subst (InFrame frame) e child, tt);
+      upload_from = tt;
+    })
+    (ap (λ x. x ∷ []) (sym e))
 read_somewhere frame c d whole reader child (by_lower e small) =
-    single frame c d (Lower c) (record { step = tt; cell_is = refl; condition = small; children_inside = (subst (InFrame frame) e child, tt); upload_from = tt }) (ap (λ x. x ∷ []) (sym e))
+    single frame c d (Lower c) (record {
+      step = tt;
+      cell_is = refl;
+      condition = small;
+      children_inside =
+          (subst (InFrame frame) e child, tt);
+      upload_from = tt;
+    }) (ap (λ x. x ∷ []) (sym e))
 read_somewhere frame c d whole reader child (by_product split blocks sets other_sets other_blocks) =
     read_by_product frame c d reader child split blocks sets other_sets other_blocks
 read_somewhere frame c d whole reader child (by_induced e more room size) =

@@ -1,23 +1,19 @@
 -- The induced rule covers where the children for its cut sizes do.
-use Rattle.std.proofs.Common.{◌≡◌, ℕ, zero, suc, ◌+◌, ◌-◌, ◌<◌, ◌≤◌, Bool, true, false, eqb, ltb, leb, List, [], ◌∷◌, length, map, slice_index, refl, sym, ap, ◌∙◌, subst, arith, inl, inr, ⊎_elim}
-use Rattle.std.proofs.lemmas.Bool.{cond_both, cond-true, cond-false, cases_eq, eqb-true, eq-eqb, le-ltb, leb-true, leb-false, or_left, or_right}
+use Rattle.std.proofs.Common.{◌≡◌, ℕ, suc, ◌-◌, ◌<◌, ◌≤◌, Bool, true, false, eqb, ltb, leb, List, [], ◌∷◌, length, map}
+use Rattle.std.proofs.Common.{slice_index, refl, sym, ap, ◌∙◌, subst, arith, inl, inr, ⊎_elim}
+use Rattle.std.proofs.lemmas.Bool.{cond_both, cond-true, cond-false, eqb-true, eq-eqb, le-ltb, leb-true, leb-false}
+use Rattle.std.proofs.lemmas.Bool.{or_left, or_right}
 use Rattle.std.specs.List.{AllByRecursion, AllZip, filter, flat_map, list_any, range_with_len}
 use Rattle.lj_base.specs.Blocks.{Ascends, IsBlock, Has, Within, SomeContains, AreBlocks, Covers}
+use Rattle.lj_base.proofs.Ascending.{Ascends-wider, Has-range, SomeContains-append_left, SomeContains-append_right}
+use Rattle.lj_base.proofs.Ascending.{SomeContains-map, Within-larger, Within-map, length-ascending}
+use Rattle.lj_base.proofs.Lists.{AllByRecursion-append, AllByRecursion-both, AllByRecursion-map, AllByRecursion-weaker}
 use Rattle.lj_cover.specs.Operations.{cut, fill, place}
 use Rattle.lj_cover.specs.BlockLists.{at_size, cut_blocks, cut_sizes, induced_blocks}
 use Rattle.lj_cover.specs.Rules.{triple}
-pub use Rattle.lj_cover.proofs.Points.{AllByRecursion-weaker}
-use Rattle.lj_cover.proofs.Points.{AllByRecursion-append, AllByRecursion-map, Ascends-wider, SomeContains-append_left, SomeContains-append_right, Within-larger, length-ascending}
-use Rattle.lj_cover.proofs.Filling.{Has-fill, IsBlock-fill}
-use Rattle.lj_cover.proofs.Cutting.{Ascends-cut, Within-cut}
-use Rattle.lj_cover.proofs.Elementary.{SomeContains-map}
-use Rattle.lj_cover.proofs.Joining.{Within-map}
-use Rattle.lj_cover.proofs.Placing.{IsBlock-place, length-Within, length-places, places_of}
-
-pub Has-range : (lo n p : ℕ) → lo ≤ p → p < lo + n → Has (range_with_len lo n) p
-Has-range lo zero p from to = absurd (omega arith)
-Has-range lo (suc n) p from to =
-    ⊎_elim (λ e. inl e) (λ other. inr (Has-range (lo + 1) n p (omega arith) (omega arith))) (cases_eq lo p)
+use Rattle.lj_cover.proofs.FilledBlocks.{Has-fill, IsBlock-fill}
+use Rattle.lj_cover.proofs.CutsOfBlocks.{Ascends-cut, Within-cut}
+use Rattle.lj_cover.proofs.PlacedBlocks.{IsBlock-place, length-Within, length-places, places_of}
 
 pub Has-filter : (f : ℕ → Bool) (xs : List ℕ) (p : ℕ) → f p ≡ true → Has xs p → Has (filter f xs) p
 Has-filter f [] p passes has = absurd has
@@ -28,16 +24,14 @@ Has-filter f (x ∷ xs) p passes (inr rest) =
     let later = Has-filter f xs p passes rest in
     cond_both (f x) _ _ (λ c. Has c p) (λ _. inr later) (λ _. later)
 
-pub AllByRecursion-both : {X : Type 0} (P Q : X → Type 0) (xs : List X) → AllByRecursion P xs → AllByRecursion Q xs → AllByRecursion (λ x. P x × Q x) xs
-AllByRecursion-both P Q [] h k = tt
-AllByRecursion-both P Q (x ∷ xs) h k = ((h.0, k.0), AllByRecursion-both P Q xs h.1 k.1)
-
 -- a test that an element passes is passed by some element
-pub any_member : {X : Type 0} (xs : List X) → AllByRecursion (λ x. (f : X → Bool) → f x ≡ true → list_any f xs ≡ true) xs
+pub any_member : {X : Type 0} (xs : List X)
+    → AllByRecursion (λ x. (f : X → Bool) → f x ≡ true → list_any f xs ≡ true) xs
 any_member [] = tt
 any_member {X} (x ∷ xs) = (
   λ f e. or_left _ _ e,
-  AllByRecursion-weaker (λ y. (f : X → Bool) → f y ≡ true → list_any f xs ≡ true) (λ y. (f : X → Bool) → f y ≡ true → list_any f (x ∷ xs) ≡ true) xs
+  AllByRecursion-weaker (λ y. (f : X → Bool) → f y ≡ true → list_any f xs ≡ true)
+      (λ y. (f : X → Bool) → f y ≡ true → list_any f (x ∷ xs) ≡ true) xs
       (λ y h f e. or_right _ _ (h f e)) (any_member xs),
 )
 
@@ -45,23 +39,30 @@ any_member {X} (x ∷ xs) = (
 abbrev pub HasSize : ℕ → ℕ → List ℕ → List ℕ → Type 0
 HasSize k w sizes b = Ascends 0 w (cut w b) × (k < length (cut w b) → Has sizes (length (cut w b)))
 
-pub cut_sizes_have : (v m k w : ℕ) (bs : List (List ℕ)) → AreBlocks v m bs → AllByRecursion (HasSize k w (cut_sizes k w bs)) bs
+-- each test that the block passes is passed by a block of the list
+abbrev IsTested : List (List ℕ) → List ℕ → Type 0
+IsTested bs b = (f : List ℕ → Bool) → f b ≡ true → list_any f bs ≡ true
+
+pub cut_sizes_have : (v m k w : ℕ) (bs : List (List ℕ)) → AreBlocks v m bs
+    → AllByRecursion (HasSize k w (cut_sizes k w bs)) bs
 cut_sizes_have v m k w bs h =
-    AllByRecursion-weaker (λ b. IsBlock v m b × ((f : List ℕ → Bool) → f b ≡ true → list_any f bs ≡ true)) (HasSize k w (cut_sizes k w bs)) bs each
-    (AllByRecursion-both (IsBlock v m) (λ b. (f : List ℕ → Bool) → f b ≡ true → list_any f bs ≡ true) bs h (any_member bs))
+    AllByRecursion-both (IsBlock v m) (IsTested bs) (HasSize k w (cut_sizes k w bs)) bs each h (any_member bs)
   where
-    each : (b : List ℕ) → IsBlock v m b × ((f : List ℕ → Bool) → f b ≡ true → list_any f bs ≡ true) → HasSize k w (cut_sizes k w bs) b
-    each b facts =
-        let ascends = Ascends-cut w 0 v b facts.0.0 in
+    each : (b : List ℕ) → IsBlock v m b → IsTested bs b → HasSize k w (cut_sizes k w bs) b
+    each b block tested =
+        let ascends = Ascends-cut w 0 v b block.0 in
         let room = length-ascending 0 w (cut w b) (omega arith) ascends in (
           ascends,
-          λ more. Has-filter (λ l. list_any (λ c. eqb (length (cut w c)) l) bs) (range_with_len (suc k) (w - k)) (length (cut w b))
-              (facts.1 (λ c. eqb (length (cut w c)) (length (cut w b))) (eq-eqb (length (cut w b)) (length (cut w b)) refl))
+          λ more. Has-filter (λ l. list_any (λ c. eqb (length (cut w c)) l) bs) (range_with_len (suc k) (w - k))
+              (length (cut w b))
+              (tested (λ c. eqb (length (cut w c)) (length (cut w b)))
+              (eq-eqb (length (cut w b)) (length (cut w b)) refl))
               (Has-range (suc k) (w - k) (length (cut w b)) more (omega arith)),
         )
 
 -- the list that stands at a size covers that size's cell
-at_size_covers : (k t : ℕ) (sizes : List ℕ) (lists : List (List (List ℕ))) (l : ℕ) → AllZip Covers lists (map (λ s. triple s k t) sizes) → Has sizes l
+at_size_covers : (k t : ℕ) (sizes : List ℕ) (lists : List (List (List ℕ))) (l : ℕ)
+    → AllZip Covers lists (map (λ s. triple s k t) sizes) → Has sizes l
     → Covers (at_size sizes lists [] l) (triple l k t)
 at_size_covers k t [] lists l h has = absurd has
 at_size_covers k t (s ∷ ss) [] l h has = absurd h
@@ -82,13 +83,15 @@ record CutCovers (w k t : ℕ) (sizes : List ℕ) (lists : List (List (List ℕ)
   sets : (s : List ℕ) → IsBlock w t s → Within s c → SomeContains (cut_blocks t k sizes lists c) s
 
 cut_covers : (w k t : ℕ) (sizes : List ℕ) (lists : List (List (List ℕ))) (c : List ℕ) → k ≤ w → Ascends 0 w c
-    → (k < length c → Covers (at_size sizes lists [] (length c)) (triple (length c) k t)) → CutCovers w k t sizes lists c
+    → (k < length c → Covers (at_size sizes lists [] (length c)) (triple (length c) k t))
+    → CutCovers w k t sizes lists c
 cut_covers w k t sizes lists c room h child = record {
   blocks =
       cond_both (ltb (length c) t) _ _ (AreBlocks w k) (λ _. tt)
       (λ _. cond_both (leb (length c) k) _ _ (AreBlocks w k)
       (λ e. (IsBlock-fill w k c (leb-true (length c) k e) room h, tt))
-      (λ e. AllByRecursion-map (IsBlock (length c) k) (IsBlock w k) (place c) (at_size sizes lists [] (length c)) (λ b block. IsBlock-place w k c b h block)
+      (λ e. AllByRecursion-map (IsBlock (length c) k) (IsBlock w k) (place c) (at_size sizes lists [] (length c))
+      (λ b block. IsBlock-place w k c b h block)
       (child (leb-false (length c) k e)).blocks));
   sets = λ s set within.
       let enough = length-Within 0 0 w w c s h set.0 within in
@@ -103,31 +106,41 @@ cut_covers w k t sizes lists c room h child = record {
       ((child (leb-false (length c) k e)).sets p.places (p.ascends, length-places c s p ∙ set.1))));
 }
 
-each_are_blocks : (w k t : ℕ) (sizes : List ℕ) (lists : List (List (List ℕ))) (bs : List (List ℕ)) → AllByRecursion (λ b. CutCovers w k t sizes lists (cut w b)) bs
+each_are_blocks : (w k t : ℕ) (sizes : List ℕ) (lists : List (List (List ℕ))) (bs : List (List ℕ))
+    → AllByRecursion (λ b. CutCovers w k t sizes lists (cut w b)) bs
     → AreBlocks w k (flat_map (λ b. cut_blocks t k sizes lists (cut w b)) bs)
 each_are_blocks w k t sizes lists [] h = tt
 each_are_blocks w k t sizes lists (b ∷ bs) h =
-    AllByRecursion-append (IsBlock w k) (cut_blocks t k sizes lists (cut w b)) (flat_map (λ c. cut_blocks t k sizes lists (cut w c)) bs) h.0.blocks
+    AllByRecursion-append (IsBlock w k) (cut_blocks t k sizes lists (cut w b))
+    (flat_map (λ c. cut_blocks t k sizes lists (cut w c)) bs) h.0.blocks
     (each_are_blocks w k t sizes lists bs h.1)
 
-some_contains : (w k t : ℕ) (sizes : List ℕ) (lists : List (List (List ℕ))) (bs : List (List ℕ)) (s : List ℕ) → AllByRecursion (λ b. CutCovers w k t sizes lists (cut w b)) bs
+some_contains : (w k t : ℕ) (sizes : List ℕ) (lists : List (List (List ℕ))) (bs : List (List ℕ)) (s : List ℕ)
+    → AllByRecursion (λ b. CutCovers w k t sizes lists (cut w b)) bs
     → IsBlock w t s → SomeContains bs s → SomeContains (flat_map (λ b. cut_blocks t k sizes lists (cut w b)) bs) s
 some_contains w k t sizes lists [] s h set has = absurd has
 some_contains w k t sizes lists (b ∷ bs) s h set (inl here) =
-    SomeContains-append_left (cut_blocks t k sizes lists (cut w b)) (flat_map (λ c. cut_blocks t k sizes lists (cut w c)) bs) s
+    SomeContains-append_left (cut_blocks t k sizes lists (cut w b))
+    (flat_map (λ c. cut_blocks t k sizes lists (cut w c)) bs) s
     (h.0.sets s set (Within-cut w 0 s b set.0 here))
 some_contains w k t sizes lists (b ∷ bs) s h set (inr rest) =
-    SomeContains-append_right (cut_blocks t k sizes lists (cut w b)) (flat_map (λ c. cut_blocks t k sizes lists (cut w c)) bs) s
+    SomeContains-append_right (cut_blocks t k sizes lists (cut w b))
+    (flat_map (λ c. cut_blocks t k sizes lists (cut w c)) bs) s
     (some_contains w k t sizes lists bs s h.1 set rest)
 
-pub induced_covers : (v m k w t : ℕ) (bs : List (List ℕ)) (lists : List (List (List ℕ))) → k ≤ w → w ≤ v → Covers bs (triple v m t)
-    → AllZip Covers lists (map (λ l. triple l k t) (cut_sizes k w bs)) → Covers (induced_blocks t k w lists bs) (triple w k t)
+pub induced_covers : (v m k w t : ℕ) (bs : List (List ℕ)) (lists : List (List (List ℕ))) → k ≤ w → w ≤ v
+    → Covers bs (triple v m t)
+    → AllZip Covers lists (map (λ l. triple l k t) (cut_sizes k w bs))
+    → Covers (induced_blocks t k w lists bs) (triple w k t)
 induced_covers v m k w t bs lists room inside h children = record {
   blocks = each_are_blocks w k t (cut_sizes k w bs) lists bs each;
-  sets = λ s set. some_contains w k t (cut_sizes k w bs) lists bs s each set (h.sets s (Ascends-wider 0 0 w v s (omega arith) inside set.0, set.1));
+  sets = λ s set. some_contains w k t (cut_sizes k w bs) lists bs s each set
+      (h.sets s (Ascends-wider 0 0 w v s (omega arith) inside set.0, set.1));
 }
   where
     each : AllByRecursion (λ b. CutCovers w k t (cut_sizes k w bs) lists (cut w b)) bs
-    each = AllByRecursion-weaker (HasSize k w (cut_sizes k w bs)) (λ b. CutCovers w k t (cut_sizes k w bs) lists (cut w b)) bs
-        (λ b has. cut_covers w k t (cut_sizes k w bs) lists (cut w b) room has.0 (λ more. at_size_covers k t (cut_sizes k w bs) lists (length (cut w b)) children (has.1 more)))
+    each = AllByRecursion-weaker (HasSize k w (cut_sizes k w bs))
+        (λ b. CutCovers w k t (cut_sizes k w bs) lists (cut w b)) bs
+        (λ b has. cut_covers w k t (cut_sizes k w bs) lists (cut w b) room has.0
+        (λ more. at_size_covers k t (cut_sizes k w bs) lists (length (cut w b)) children (has.1 more)))
         (cut_sizes_have v m k w bs h.blocks)

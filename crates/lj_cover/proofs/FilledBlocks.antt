@@ -1,10 +1,11 @@
--- Filling a block: it keeps its points, ascends, and has as many as asked.
-use Rattle.std.proofs.Common.{◌≡◌, ℕ, zero, suc, ◌+◌, ◌-◌, ◌<◌, ◌≤◌, eqb, List, [], ◌∷◌, length, refl, sym, ap, subst, arith, inl, inr}
+-- A filled block keeps its points, ascends, and has k points.
+use Rattle.std.proofs.Common.{◌≡◌, ℕ, zero, suc, ◌+◌, ◌-◌, ◌<◌, ◌≤◌, eqb, List, [], ◌∷◌, length, refl, sym, ap, subst}
+use Rattle.std.proofs.Common.{arith, inl, inr}
 use Rattle.std.proofs.lemmas.Bool.{cond_both, eqb-true, eqb-false}
 use Rattle.lj_base.specs.Cells.{Triple}
 use Rattle.lj_base.specs.Blocks.{Ascends, IsBlock, Has, SomeContains, Covers}
+use Rattle.lj_base.proofs.Ascending.{SomeContains-smaller}
 use Rattle.lj_cover.specs.Operations.{add_least, add_missing, fill}
-use Rattle.lj_cover.proofs.Points.{SomeContains-smaller}
 
 Has-add_least : (lo : ℕ) (b : List ℕ) (p : ℕ) → Has b p → Has (add_least lo b) p
 Has-add_least lo [] p has = absurd has
@@ -37,18 +38,23 @@ length-add_missing : (lo n : ℕ) (b : List ℕ) → length (add_missing lo n b)
 length-add_missing lo zero b = omega arith
 length-add_missing lo (suc n) b = omega (arith, length-add_missing lo n (add_least lo b), length-add_least lo b)
 
-Ascends-add_missing : (lo n v : ℕ) (b : List ℕ) → lo + n + length b ≤ v → Ascends lo v b → Ascends lo v (add_missing lo n b)
+Ascends-add_missing : (lo n v : ℕ) (b : List ℕ) → lo + n + length b ≤ v → Ascends lo v b
+    → Ascends lo v (add_missing lo n b)
 Ascends-add_missing lo zero v b room h = h
 Ascends-add_missing lo (suc n) v b room h =
-    Ascends-add_missing lo n v (add_least lo b) (omega (arith, length-add_least lo b)) (Ascends-add_least lo v b (omega arith) h)
+    Ascends-add_missing lo n v (add_least lo b) (omega (arith, length-add_least lo b))
+    (Ascends-add_least lo v b (omega arith) h)
 
 pub Has-fill : (k : ℕ) (b : List ℕ) (p : ℕ) → Has b p → Has (fill k b) p
 Has-fill k b = Has-add_missing 0 (k - length b) b
 
 pub IsBlock-fill : (v k : ℕ) (b : List ℕ) → length b ≤ k → k ≤ v → Ascends 0 v b → IsBlock v k (fill k b)
-IsBlock-fill v k b short room h = (Ascends-add_missing 0 (k - length b) v b (omega arith) h, omega (arith, length-add_missing 0 (k - length b) b))
+IsBlock-fill v k b short room h =
+    (Ascends-add_missing 0 (k - length b) v b (omega arith) h, omega (arith, length-add_missing 0 (k - length b) b))
 
 -- a list that covers contains also each smaller set in some block
-pub covers_fewer : (bs : List (List ℕ)) (c : Triple) (s : List ℕ) → c.t ≤ c.v → Covers bs c → Ascends 0 c.v s → length s ≤ c.t → SomeContains bs s
+pub covers_fewer : (bs : List (List ℕ)) (c : Triple) (s : List ℕ) → c.t ≤ c.v → Covers bs c → Ascends 0 c.v s
+    → length s ≤ c.t → SomeContains bs s
 covers_fewer bs c s room h ascends few =
-    SomeContains-smaller bs s (fill c.t s) (Has-fill c.t s) (h.sets (fill c.t s) (IsBlock-fill c.v c.t s few room ascends))
+    SomeContains-smaller bs s (fill c.t s) (Has-fill c.t s)
+    (h.sets (fill c.t s) (IsBlock-fill c.v c.t s few room ascends))

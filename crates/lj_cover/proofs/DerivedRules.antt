@@ -1,13 +1,15 @@
 -- The blocks through a point cover, without the point, the other points.
-use Rattle.std.proofs.Common.{◌≡◌, ℕ, suc, ◌-◌, ◌<◌, ◌≤◌, Bool, true, false, not, cond, eqb, ltb, ◌&&◌, ◌||◌, List, [], ◌∷◌, length, map, refl, sym, ap, ◌∙◌, subst, subst₂, arith, inl, inr, ⊎_elim}
-use Rattle.std.proofs.lemmas.Bool.{cond_both, cond-true, cond-false, cases_order, eq-eqb, ne_eqb, lt-ltb, le-ltb, not_from_true, not_from_false}
+use Rattle.std.proofs.Common.{◌≡◌, ℕ, suc, ◌-◌, ◌<◌, ◌≤◌, Bool, true, false, not, cond, eqb, ltb, ◌&&◌, ◌||◌, List, []}
+use Rattle.std.proofs.Common.{◌∷◌, length, map, refl, sym, ap, ◌∙◌, subst, subst₂, arith, inl, inr, ⊎_elim}
+use Rattle.std.proofs.lemmas.Bool.{cond_both, cond-true, cond-false, cases_order, eq-eqb, ne_eqb, lt-ltb, le-ltb}
+use Rattle.std.proofs.lemmas.Bool.{not_from_true, not_from_false}
 use Rattle.std.specs.List.{filter}
 use Rattle.lj_base.specs.Blocks.{Ascends, Has, Within, SomeContains, AreBlocks, Covers}
+use Rattle.lj_base.proofs.Ascending.{Ascends-wider, Has-below, Has-from, Has-from_Within}
 use Rattle.lj_cover.specs.Operations.{has_point, without}
 use Rattle.lj_cover.specs.BlockLists.{derived_blocks, derived2_blocks}
 use Rattle.lj_cover.specs.Rules.{triple}
-use Rattle.lj_cover.proofs.Points.{Ascends-wider, Has-Within, below-Has, from-Has}
-use Rattle.lj_cover.proofs.Cutting.{Has-from_test, test-from_Has}
+use Rattle.lj_cover.proofs.CutsOfBlocks.{Has-from_test, test-from_Has}
 
 -- `without` at the head of a list: the point itself goes, a greater one falls by 1, a lesser one stays
 pub without_same : (x y : ℕ) (ys : List ℕ) → y ≡ x → without x (y ∷ ys) ≡ without x ys
@@ -36,7 +38,8 @@ without_above : (x lo v : ℕ) (b : List ℕ) → x ≤ lo → Ascends (suc lo) 
 without_above x lo v [] under h = record { ascends = tt; same_length = refl }
 without_above x lo v (y ∷ ys) under h =
     let start : suc (y - 1) ≡ y = omega (arith, h.0) in
-    let rest = without_above x (suc (y - 1)) v ys (omega (arith, h.0)) (subst (λ z. Ascends (suc z) v ys) (sym start) h.2) in
+    let rest = without_above x (suc (y - 1)) v ys (omega (arith, h.0))
+    (subst (λ z. Ascends (suc z) v ys) (sym start) h.2) in
     let is = without_greater x y ys (omega (arith, h.0)) in
     record {
       ascends = subst (Ascends lo (v - 1)) (sym is) (omega (arith, h.0), omega (arith, h.0, h.1), rest.ascends);
@@ -54,14 +57,15 @@ without_point x lo v (y ∷ ys) h (inl e) =
     let is = without_same x y ys e in
     let rest = without_above x y v ys (omega (arith, e)) h.2 in
     record {
-      ascends = subst (Ascends lo (v - 1)) (sym is) (Ascends-wider y lo (v - 1) (v - 1) (without x ys) h.0 (omega arith) rest.ascends);
+      ascends = subst (Ascends lo (v - 1)) (sym is)
+          (Ascends-wider y lo (v - 1) (v - 1) (without x ys) h.0 (omega arith) rest.ascends);
       shorter = ap suc (ap length is ∙ rest.same_length);
     }
 without_point x lo v (y ∷ ys) h (inr rest) =
-    let under : y < x = from-Has (suc y) v ys x h.2 rest in
+    let under : y < x = Has-from (suc y) v x ys h.2 rest in
     let is = without_lesser x y ys under in
     let later = without_point x (suc y) v ys h.2 rest in
-    let room = below-Has (suc y) v ys x h.2 rest in
+    let room = Has-below (suc y) v x ys h.2 rest in
     record {
       ascends = subst (Ascends lo (v - 1)) (sym is) (h.0, omega arith, later.ascends);
       shorter = ap suc (ap length is ∙ later.shorter);
@@ -98,7 +102,8 @@ pub record Raised (x lo v : ℕ) (s : List ℕ) : Type 0 where
   pub has : Has set x
   pub lowers : (b : List ℕ) → Within set b → Within s (without x b)
 
-raised_above : (x lo v : ℕ) (s : List ℕ) → x ≤ lo → Ascends lo v s → (r : List ℕ) × Ascends (suc lo) (suc v) r × (length r ≡ length s) × ((b : List ℕ) → Within r b → Within s (without x b))
+raised_above : (x lo v : ℕ) (s : List ℕ) → x ≤ lo → Ascends lo v s → (r : List ℕ) × Ascends (suc lo) (suc v) r ×
+    (length r ≡ length s) × ((b : List ℕ) → Within r b → Within s (without x b))
 raised_above x lo v [] under h = ([], tt, refl, λ b within. tt)
 raised_above x lo v (y ∷ ys) under h =
     let rest = raised_above x (suc y) v ys (omega (arith, h.0)) h.2 in (
@@ -109,7 +114,8 @@ raised_above x lo v (y ∷ ys) under h =
     )
 
 raised : (x lo v : ℕ) (s : List ℕ) → lo ≤ x → x ≤ v → Ascends lo v s → Raised x lo v s
-raised x lo v [] from to h = record { set = x ∷ []; ascends = (from, omega arith, tt); longer = refl; has = inl refl; lowers = λ b within. tt }
+raised x lo v [] from to h =
+    record { set = x ∷ []; ascends = (from, omega arith, tt); longer = refl; has = inl refl; lowers = λ b within. tt }
 raised x lo v (y ∷ ys) from to h =
     let between : y < x → Raised x lo v (y ∷ ys) = λ below.
     let rest = raised x (suc y) v ys below to h.2 in record {
@@ -129,30 +135,36 @@ raised x lo v (y ∷ ys) from to h =
     } in
     ⊎_elim (λ e. before (omega (arith, e))) (⊎_elim between (λ more. before (omega arith))) (cases_order y x)
 
-derived_are_blocks : (v k x : ℕ) (bs : List (List ℕ)) → AreBlocks v k bs → AreBlocks (v - 1) (k - 1) (derived_blocks x bs)
+derived_are_blocks : (v k x : ℕ) (bs : List (List ℕ)) → AreBlocks v k bs
+    → AreBlocks (v - 1) (k - 1) (derived_blocks x bs)
 derived_are_blocks v k x [] h = tt
 derived_are_blocks v k x (b ∷ bs) h =
     let rest = derived_are_blocks v k x bs h.1 in
     cond_both (has_point b x) _ _ (λ cs. AreBlocks (v - 1) (k - 1) (map (without x) cs))
-    (λ e. let less = without_point x 0 v b h.0.0 (Has-from_test b x e) in ((less.ascends, omega (arith, less.shorter, h.0.1)), rest))
+    (λ e. let less =
+    without_point x 0 v b h.0.0 (Has-from_test b x e) in ((less.ascends, omega (arith, less.shorter, h.0.1)), rest))
     (λ _. rest)
 
-derived_contains : (x : ℕ) (bs : List (List ℕ)) (s t : List ℕ) → Has t x → ((b : List ℕ) → Within t b → Within s (without x b)) → SomeContains bs t → SomeContains (derived_blocks x bs) s
+derived_contains : (x : ℕ) (bs : List (List ℕ)) (s t : List ℕ) → Has t x
+    → ((b : List ℕ) → Within t b → Within s (without x b)) → SomeContains bs t → SomeContains (derived_blocks x bs) s
 derived_contains x [] s t has lowers h = absurd h
 derived_contains x (b ∷ bs) s t has lowers (inl here) =
-    let kept = cond-true (has_point b x) (b ∷ filter (λ c. has_point c x) bs) (filter (λ c. has_point c x) bs) (test-from_Has b x (Has-Within t b x here has)) in
+    let kept = cond-true (has_point b x) (b ∷ filter (λ c. has_point c x) bs) (filter (λ c. has_point c x) bs)
+    (test-from_Has b x (Has-from_Within t b here x has)) in
     subst (λ cs. SomeContains (map (without x) cs) s) (sym kept) (inl (lowers b here))
 derived_contains x (b ∷ bs) s t has lowers (inr rest) =
     let later = derived_contains x bs s t has lowers rest in
     cond_both (has_point b x) _ _ (λ cs. SomeContains (map (without x) cs) s) (λ _. inr later) (λ _. later)
 
-pub derived_covers : (v k t x : ℕ) (bs : List (List ℕ)) → 1 ≤ t → x < v → Covers bs (triple v k t) → Covers (derived_blocks x bs) (triple (v - 1) (k - 1) (t - 1))
+pub derived_covers : (v k t x : ℕ) (bs : List (List ℕ)) → 1 ≤ t → x < v → Covers bs (triple v k t)
+    → Covers (derived_blocks x bs) (triple (v - 1) (k - 1) (t - 1))
 derived_covers v k t x bs some inside h = record {
   blocks = derived_are_blocks v k x bs h.blocks;
   sets = λ s set.
       let up = raised x 0 (v - 1) s (omega arith) (omega arith) set.0 in
       let all : suc (v - 1) ≡ v = omega arith in
-      derived_contains x bs s up.set up.has up.lowers (h.sets up.set (subst (λ w. Ascends 0 w up.set) all up.ascends, omega (arith, up.longer, set.1)));
+      derived_contains x bs s up.set up.has up.lowers
+      (h.sets up.set (subst (λ w. Ascends 0 w up.set) all up.ascends, omega (arith, up.longer, set.1)));
 }
 
 -- a point below the one that goes is there before and after
@@ -168,26 +180,33 @@ has_point-without x y (z ∷ zs) below =
     let more : y < z → has_point (without y (z ∷ zs)) x ≡ has_point (z ∷ zs) x = λ e.
     let other : eqb z x ≡ false = ne_eqb z x (λ f. omega arith) in
     let lowered : eqb (z - 1) x ≡ false = ne_eqb (z - 1) x (λ f. omega arith) in
-    ap (λ c. has_point c x) (without_greater y z zs e) ∙ ap (λ q. q || has_point (without y zs) x) lowered ∙ later ∙ sym (ap (λ q. q || has_point zs x) other) in
+    ap (λ c. has_point c x) (without_greater y z zs e) ∙ ap (λ q. q || has_point (without y zs) x) lowered ∙ later
+    ∙ sym (ap (λ q. q || has_point zs x) other) in
     ⊎_elim gone (⊎_elim less more) (cases_order z y)
 
 twice_step : (x y : ℕ) (b : List ℕ) (F G : List (List ℕ)) (p q : Bool) → has_point (without y b) x ≡ p
     → map (λ c. without x (without y c)) F ≡ map (without x) (filter (λ c. has_point c x) (map (without y) G))
-    → map (λ c. without x (without y c)) (cond (p && q) (b ∷ F) F) ≡ map (without x) (filter (λ c. has_point c x) (map (without y) (cond q (b ∷ G) G)))
+    → map (λ c. without x (without y c)) (cond (p && q) (b ∷ F) F) ≡ map (without x)
+    (filter (λ c. has_point c x) (map (without y) (cond q (b ∷ G) G)))
 twice_step x y b F G true true e later =
-    ap (λ r. without x (without y b) ∷ r) later ∙ sym (ap (map (without x)) (cond-true (has_point (without y b) x) _ _ e))
-twice_step x y b F G false true e later = later ∙ sym (ap (map (without x)) (cond-false (has_point (without y b) x) _ _ e))
+    ap (λ r. without x (without y b) ∷ r) later ∙ sym
+    (ap (map (without x)) (cond-true (has_point (without y b) x) _ _ e))
+twice_step x y b F G false true e later =
+    later ∙ sym (ap (map (without x)) (cond-false (has_point (without y b) x) _ _ e))
 twice_step x y b F G true false e later = later
 twice_step x y b F G false false e later = later
 
 -- through two points is through the greater one, and then through the lesser
-pub derived2_twice : (x y : ℕ) (bs : List (List ℕ)) → x < y → derived2_blocks x y bs ≡ derived_blocks x (derived_blocks y bs)
+pub derived2_twice : (x y : ℕ) (bs : List (List ℕ)) → x < y
+    → derived2_blocks x y bs ≡ derived_blocks x (derived_blocks y bs)
 derived2_twice x y [] below = refl
 derived2_twice x y (b ∷ bs) below =
-    twice_step x y b (filter (λ c. has_point c x && has_point c y) bs) (filter (λ c. has_point c y) bs) (has_point b x) (has_point b y)
+    twice_step x y b (filter (λ c. has_point c x && has_point c y) bs) (filter (λ c. has_point c y) bs) (has_point b x)
+    (has_point b y)
     (has_point-without x y b below) (derived2_twice x y bs below)
 
-pub derived2_covers : (v k t x y : ℕ) (bs : List (List ℕ)) → 2 ≤ t → x < y → y < v → Covers bs (triple v k t) → Covers (derived2_blocks x y bs) (triple (v - 2) (k - 2) (t - 2))
+pub derived2_covers : (v k t x y : ℕ) (bs : List (List ℕ)) → 2 ≤ t → x < y → y < v → Covers bs (triple v k t)
+    → Covers (derived2_blocks x y bs) (triple (v - 2) (k - 2) (t - 2))
 derived2_covers v k t x y bs some order inside h =
     let once = derived_covers v k t y bs (omega arith) inside h in
     let again = derived_covers (v - 1) (k - 1) (t - 1) x (derived_blocks y bs) (omega arith) (omega arith) once in

@@ -1,9 +1,12 @@
 -- The points of a block below a bound, and tests for a point.
-use Rattle.std.proofs.Common.{◌≡◌, ℕ, suc, ◌<◌, ◌≤◌, ◌↔◌, IsTrue, true, ltb, List, [], ◌∷◌, length, sym, subst, arith, inl, inr, ⊎_elim}
-use Rattle.std.proofs.lemmas.Bool.{and_from, and_parts, cond_both, cond-true, lt-ltb, ltb-true, eqb-true, eq-eqb, or_cases, or_left, or_right, false≢true}
+use Rattle.std.proofs.Common.{◌≡◌, ℕ, suc, ◌<◌, ◌≤◌, ◌↔◌, IsTrue, Bool, true, false, refl, ltb, List, [], ◌∷◌, length}
+use Rattle.std.proofs.Common.{sym, subst, arith}
+use Rattle.std.proofs.Common.{inl, inr, ⊎_elim}
+use Rattle.std.proofs.lemmas.Bool.{and_from, and_parts, cond_both, cond-true, lt-ltb, ltb-true, eqb-true, eq-eqb}
+use Rattle.std.proofs.lemmas.Bool.{or_cases, or_left, or_right, false≢true}
 use Rattle.lj_base.specs.Blocks.{Ascends, Has, Within}
+use Rattle.lj_base.proofs.Ascending.{Ascends-wider, length-ascending}
 use Rattle.lj_cover.specs.Operations.{cut, has_both, has_point}
-use Rattle.lj_cover.proofs.Points.{Ascends-wider, length-ascending}
 
 pub Has-cut : (w : ℕ) (b : List ℕ) (p : ℕ) → p < w → Has b p → Has (cut w b) p
 Has-cut w [] p below has = absurd has
@@ -43,6 +46,15 @@ test-from_Has [] p h = absurd h
 test-from_Has (x ∷ xs) p (inl e) = or_left _ _ (eq-eqb x p e)
 test-from_Has (x ∷ xs) p (inr rest) = or_right _ _ (test-from_Has xs p rest)
 
+-- what says whether p is a point of the block is the test
+pub test_is : (b : List ℕ) (p : ℕ) (flag : Bool) → IsTrue flag ↔ Has b p → flag ≡ has_point b p
+test_is b p true says = sym (test-from_Has b p (says.0 refl))
+test_is b p false says = both_false (has_point b p) (λ e. says.1 (Has-from_test b p e))
+  where
+    both_false : (q : Bool) → (q ≡ true → false ≡ true) → false ≡ q
+    both_false true h = h refl
+    both_false false h = refl
+
 pub point_is_tested : (b : List ℕ) (p : ℕ) → IsTrue (has_point b p) ↔ Has b p
 point_is_tested b p = (Has-from_test b p, test-from_Has b p)
 
@@ -56,7 +68,8 @@ both_are_tested b x y = (
 from_cut : (w : ℕ) (b : List ℕ) (p : ℕ) → Has (cut w b) p → Has b p × (p < w)
 from_cut w [] p has = absurd has
 from_cut w (x ∷ xs) p has0 =
-    let later : Has (cut w xs) p → Has (x ∷ xs) p × (p < w) = λ has. let rest = from_cut w xs p has in (inr rest.0, rest.1) in
+    let later : Has (cut w xs) p → Has (x ∷ xs) p × (p < w) = λ has. let rest = from_cut w xs p has in
+    (inr rest.0, rest.1) in
     cond_both (ltb x w) (x ∷ cut w xs) (cut w xs) (λ c. Has c p → Has (x ∷ xs) p × (p < w))
     (λ e has. ⊎_elim (λ same. (inl same, omega (arith, ltb-true x w e, same))) later has)
     (λ _ has. later has) has0
@@ -64,5 +77,8 @@ from_cut w (x ∷ xs) p has0 =
 pub points_of_cut : (w : ℕ) (b : List ℕ) (p : ℕ) → Has (cut w b) p ↔ (Has b p × (p < w))
 points_of_cut w b p = (from_cut w b p, λ facts. Has-cut w b p facts.1 facts.0)
 
-pub length-cut_below : (v w : ℕ) (b : List ℕ) → Ascends 0 v b → length (cut w b) ≤ w
-length-cut_below v w b h = let room = length-ascending 0 w (cut w b) (omega arith) (Ascends-cut w 0 v b h) in omega arith
+pub length-cut_below : (lo v w : ℕ) (b : List ℕ) → Ascends lo v b → length (cut w b) ≤ w
+length-cut_below lo v w b h =
+    let whole = Ascends-wider lo 0 v v b (omega arith) (omega arith) h in
+    let room = length-ascending 0 w (cut w b) (omega arith) (Ascends-cut w 0 v b whole) in
+    omega arith

@@ -1,33 +1,37 @@
 -- The rules without children cover: one block, runs, and all blocks.
-use Rattle.std.proofs.Common.{◌≡◌, ℕ, zero, suc, ◌+◌, ◌-◌, ◌*◌, ◌/◌, ◌<◌, ◌≤◌, ◌⊎◌, List, [], ◌∷◌, ◌++◌, length, map, refl, sym, ap, ◌∙◌, subst, arith, inl, inr, ⊎_elim, length-append}
+use Rattle.std.proofs.Common.{◌≡◌, ℕ, zero, suc, ◌+◌, ◌-◌, ◌*◌, ◌/◌, ◌<◌, ◌≤◌, ◌⊎◌, List, [], ◌∷◌, ◌++◌, length, map}
+use Rattle.std.proofs.Common.{refl, sym, ap, ◌∙◌, subst, arith, inl, inr, ⊎_elim, length-append}
 use Rattle.std.proofs.Math.Nat.{div-mul-le_self, lt-div-mul-add}
 use Rattle.std.proofs.lemmas.Nat.{le-div}
 use Rattle.std.proofs.lemmas.Bool.{cases_eq}
 use Rattle.std.proofs.lemmas.List.FromFn.{length-map-range_with_len, length-range_with_len}
-use Rattle.std.specs.List.{AllByRecursion, range_with_len}
+use Rattle.std.specs.List.{range_with_len}
 use Rattle.lj_base.specs.Blocks.{Ascends, IsBlock, Has, Within, SomeContains, AreBlocks, Covers}
 use Rattle.lj_base.specs.Colex.{sets}
+use Rattle.lj_base.proofs.Ascending.{Ascends-range, Ascends-wider, Has-append_left, Has-append_right, Has-below}
+use Rattle.lj_base.proofs.Ascending.{Has-range, SomeContains-append_left, SomeContains-append_right, SomeContains-map}
+use Rattle.lj_base.proofs.Ascending.{Within-append, Within-from_Has, Within-larger}
+use Rattle.lj_base.proofs.Lists.{AllByRecursion-append, AllByRecursion-made, AllByRecursion-map, AllByRecursion-weaker}
 use Rattle.lj_cover.specs.Operations.{cut}
 use Rattle.lj_cover.specs.BlockLists.{ceil_div, one_block, run, run_blocks}
 use Rattle.lj_cover.specs.Rules.{triple}
-use Rattle.lj_cover.proofs.Points.{AllByRecursion-append, AllByRecursion-map, Ascends-wider, Has-append_left, Has-append_right, SomeContains-append_left, SomeContains-append_right, Within-append, Within-from, Within-larger, below-Has}
-use Rattle.lj_cover.proofs.Filling.{Has-fill, IsBlock-fill}
-use Rattle.lj_cover.proofs.Cutting.{Ascends-cut, Has-cut, length-cut}
-use Rattle.lj_cover.proofs.Splitting.{EndsIn, last_or_below}
-use Rattle.lj_cover.proofs.Elementary.{Ascends-add_point, SomeContains-map}
-use Rattle.lj_cover.proofs.Inducing.{AllByRecursion-weaker, Has-range}
-
-pub Ascends-range : (lo n : ℕ) → Ascends lo (lo + n) (range_with_len lo n)
-Ascends-range lo zero = tt
-Ascends-range lo (suc n) =
-    let next : lo + 1 ≡ suc lo = omega arith in
-    let end : lo + 1 + n ≡ lo + suc n = omega arith in
-    (omega arith, omega arith, subst (λ m. Ascends m (lo + suc n) (range_with_len (lo + 1) n)) next (subst (λ v. Ascends (lo + 1) v (range_with_len (lo + 1) n)) end (Ascends-range (lo + 1) n)))
+use Rattle.lj_cover.proofs.FilledBlocks.{Has-fill, IsBlock-fill}
+use Rattle.lj_cover.proofs.CutsOfBlocks.{Ascends-cut, Has-cut, length-cut}
+use Rattle.lj_cover.proofs.SidesOfSets.{EndsIn, last_or_below}
+use Rattle.lj_cover.proofs.ElementaryRules.{Ascends-add_point}
 
 pub one_covers : (v k t : ℕ) → k ≤ v → (t ≡ 0) ⊎ (k ≡ v) → Covers (one_block k) (triple v k t)
 one_covers v k t room why = record {
-  blocks = ((Ascends-wider 0 0 (0 + k) v (range_with_len 0 k) (omega arith) (omega arith) (Ascends-range 0 k), length-range_with_len 0 k), tt);
-  sets = λ s set. inl (Within-from s (range_with_len 0 k) (λ p has. Has-range 0 k p (omega arith) (inside s set p has)));
+  blocks = (
+    (
+      Ascends-wider 0 0 (0 + k) v (range_with_len 0 k) (omega arith) (omega arith)
+          (Ascends-range 0 k),
+      length-range_with_len 0 k,
+    ),
+    tt,
+  );
+  sets = λ s set. inl (Within-from_Has s (range_with_len 0 k)
+      (λ p has. Has-range 0 k p (omega arith) (inside s set p has)));
 }
   where
     nothing : (s : List ℕ) (p : ℕ) → length s ≡ 0 → Has s p → ⊥
@@ -36,17 +40,15 @@ one_covers v k t room why = record {
 
     inside : (s : List ℕ) → IsBlock v t s → (p : ℕ) → Has s p → p < 0 + k
     inside s set p has =
-        let below = below-Has 0 v s p set.0 has in
+        let below = Has-below 0 v p s set.0 has in
         ⊎_elim (λ e. absurd (nothing s p (set.1 ∙ e) has)) (λ e. omega arith) why
 
-AllByRecursion-made : {X Y : Type 0} (Q : Y → Type 0) (f : X → Y) (xs : List X) → ((x : X) → Q (f x)) → AllByRecursion Q (map f xs)
-AllByRecursion-made Q f [] each = tt
-AllByRecursion-made Q f (x ∷ xs) each = (each x, AllByRecursion-made Q f xs each)
-
-SomeContains-range : (f : ℕ → List ℕ) (lo n i : ℕ) (s : List ℕ) → lo ≤ i → i < lo + n → Within s (f i) → SomeContains (map f (range_with_len lo n)) s
+SomeContains-range : (f : ℕ → List ℕ) (lo n i : ℕ) (s : List ℕ) → lo ≤ i → i < lo + n → Within s (f i)
+    → SomeContains (map f (range_with_len lo n)) s
 SomeContains-range f lo zero i s from to within = absurd (omega arith)
 SomeContains-range f lo (suc n) i s from to within =
-    ⊎_elim (λ e. inl (subst (λ j. Within s (f j)) (sym e) within)) (λ other. inr (SomeContains-range f (lo + 1) n i s (omega arith) (omega arith) within)) (cases_eq lo i)
+    ⊎_elim (λ e. inl (subst (λ j. Within s (f j)) (sym e) within))
+    (λ other. inr (SomeContains-range f (lo + 1) n i s (omega arith) (omega arith) within)) (cases_eq lo i)
 
 -- the run with point p is one of them
 run_of : (v k p : ℕ) → 1 ≤ k → p < v → p / k < ceil_div v k
@@ -65,7 +67,8 @@ runs_cover v k some room = record {
     each i =
         let row = range_with_len (i * k) k in
         IsBlock-fill v k (cut v row) (omega (arith, length-cut v row, length-range_with_len (i * k) k)) room
-        (Ascends-wider (i * k) 0 v v (cut v row) (omega arith) (omega arith) (Ascends-cut v (i * k) (i * k + k) row (Ascends-range (i * k) k)))
+        (Ascends-wider (i * k) 0 v v (cut v row) (omega arith) (omega arith)
+        (Ascends-cut v (i * k) (i * k + k) row (Ascends-range (i * k) k)))
 
     contains : (s : List ℕ) → IsBlock v 1 s → SomeContains (run_blocks v k) s
     contains [] set = absurd (omega arith)
@@ -73,7 +76,8 @@ runs_cover v k some room = record {
         let i = p / k in
         let row = range_with_len (i * k) k in
         let has : Has row p = Has-range (i * k) k p (div-mul-le_self p k) (lt-div-mul-add some) in
-        SomeContains-range (run v k) 0 (ceil_div v k) i (p ∷ []) (omega arith) (omega (arith, run_of v k p some set.0.1))
+        SomeContains-range (run v k) 0 (ceil_div v k) i (p ∷ []) (omega arith)
+        (omega (arith, run_of v k p some set.0.1))
         (Has-fill k (cut v row) p (Has-cut v row p set.0.1 has), tt)
     contains (p ∷ q ∷ s) set = absurd (omega arith)
 
@@ -85,9 +89,12 @@ sets_are_blocks v zero = ((tt, refl), tt)
 sets_are_blocks zero (suc k) = tt
 sets_are_blocks (suc v) (suc k) =
     AllByRecursion-append (IsBlock (suc v) (suc k)) (sets v (suc k)) (map (λ s. s ++ v ∷ []) (sets v k))
-    (AllByRecursion-weaker (IsBlock v (suc k)) (IsBlock (suc v) (suc k)) (sets v (suc k)) (λ b block. (Ascends-wider 0 0 v (suc v) b (omega arith) (omega arith) block.0, block.1)) (sets_are_blocks v (suc k)))
+    (AllByRecursion-weaker (IsBlock v (suc k)) (IsBlock (suc v) (suc k)) (sets v (suc k))
+    (λ b block. (Ascends-wider 0 0 v (suc v) b (omega arith) (omega arith) block.0, block.1))
+    (sets_are_blocks v (suc k)))
     (AllByRecursion-map (IsBlock v k) (IsBlock (suc v) (suc k)) (λ s. s ++ v ∷ []) (sets v k)
-    (λ b block. (Ascends-add_point v b block.0, omega (arith, length-append b (v ∷ []), block.1))) (sets_are_blocks v k))
+    (λ b block. (Ascends-add_point v b block.0, omega (arith, length-append b (v ∷ []), block.1)))
+    (sets_are_blocks v k))
 
 sets_contain : (v k : ℕ) (s : List ℕ) → IsBlock v k s → SomeContains (sets v k) s
 sets_contain v zero [] h = inl tt
@@ -100,10 +107,13 @@ sets_contain (suc v) (suc k) s h =
     SomeContains-append_right (sets v (suc k)) (map (λ b. b ++ v ∷ []) (sets v k)) s
     (subst (SomeContains (map (λ b. b ++ v ∷ []) (sets v k))) (sym e.is)
     (SomeContains-map (λ b. b ++ v ∷ []) (sets v k) e.front (e.front ++ v ∷ [])
-    (λ b within. Within-append e.front (v ∷ []) (b ++ v ∷ []) (Within-larger e.front b (b ++ v ∷ []) (Has-append_left b (v ∷ [])) within) (Has-append_right b (v ∷ []) v (inl refl), tt))
+    (λ b within. Within-append e.front (v ∷ []) (b ++ v ∷ [])
+    (Within-larger e.front b (b ++ v ∷ []) (Has-append_left b (v ∷ [])) within)
+    (Has-append_right b (v ∷ []) v (inl refl), tt))
     (sets_contain v k e.front (e.ascends, size)))) in
     let below : Ascends 0 v s → SomeContains (sets (suc v) (suc k)) s = λ ascends.
-    SomeContains-append_left (sets v (suc k)) (map (λ b. b ++ v ∷ []) (sets v k)) s (sets_contain v (suc k) s (ascends, h.1)) in
+    SomeContains-append_left (sets v (suc k)) (map (λ b. b ++ v ∷ []) (sets v k)) s
+    (sets_contain v (suc k) s (ascends, h.1)) in
     ⊎_elim at_end below (last_or_below 0 v s h.0)
 
 pub all_cover : (v k : ℕ) → Covers (sets v k) (triple v k k)

@@ -1,8 +1,9 @@
 -- Ascending lists split: at a bound, and at the last point.
-use Rattle.std.proofs.Common.{◌≡◌, ℕ, suc, ◌+◌, ◌-◌, ◌<◌, ◌≤◌, ◌⊎◌, List, [], ◌∷◌, ◌++◌, map, refl, ap, ◌∙◌, subst, arith, inl, inr, ⊎_elim}
+use Rattle.std.proofs.Common.{◌≡◌, ℕ, suc, ◌+◌, ◌-◌, ◌<◌, ◌≤◌, ◌⊎◌, List, [], ◌∷◌, ◌++◌, map, refl, ap, ◌∙◌, subst}
+use Rattle.std.proofs.Common.{arith, inl, inr, ⊎_elim}
 use Rattle.std.proofs.lemmas.Bool.{cases_lt}
 use Rattle.lj_base.specs.Blocks.{Ascends}
-use Rattle.lj_cover.proofs.Points.{Ascends-wider}
+use Rattle.lj_base.proofs.Ascending.{Ascends-wider}
 
 -- an ascending list from m on is another one shifted up by m
 pub record Shifted (m lo v : ℕ) (s : List ℕ) : Type 0 where
@@ -19,7 +20,8 @@ shifted m lo v (x ∷ xs) from h =
     record {
       low = (x - m) ∷ rest.low;
       is = ap (λ y. y ∷ xs) back ∙ ap (λ ys. (m + (x - m)) ∷ ys) rest.is;
-      ascends = (omega (arith, h.0), omega (arith, h.0, h.1), subst (λ y. Ascends y (v - m) rest.low) next rest.ascends);
+      ascends =
+          (omega (arith, h.0), omega (arith, h.0, h.1), subst (λ y. Ascends y (v - m) rest.low) next rest.ascends);
     }
 
 -- an ascending list is what it has below m, and then a list shifted up by m
@@ -60,7 +62,8 @@ pub record EndsIn (lo v : ℕ) (s : List ℕ) : Type 0 where
 pub last_or_below : (lo v : ℕ) (s : List ℕ) → Ascends lo (suc v) s → EndsIn lo v s ⊎ Ascends lo v s
 last_or_below lo v [] h = inr tt
 last_or_below lo v (x ∷ xs) h =
-    let grown : EndsIn (suc x) v xs → x < v → EndsIn lo v (x ∷ xs) = λ r below. record { front = x ∷ r.front; is = ap (λ ys. x ∷ ys) r.is; ascends = (h.0, below, r.ascends) } in
+    let grown : EndsIn (suc x) v xs → x < v → EndsIn lo v (x ∷ xs) =
+    λ r below. record { front = x ∷ r.front; is = ap (λ ys. x ∷ ys) r.is; ascends = (h.0, below, r.ascends) } in
     ⊎_elim
     (λ below. ⊎_elim (λ r. inl (grown r below)) (λ r. inr (h.0, below, r)) (last_or_below (suc x) v xs h.2))
     (λ above. inl (at_end lo v x xs above h))
