@@ -1,6 +1,9 @@
-pub mod Counting
-pub mod Order
-pub mod Triangle
-pub mod Places
-pub mod Inserted
+pub mod Ascending
 pub mod Lists
+pub mod CellCounts
+pub mod CellOrder
+pub mod BinomialTable
+pub mod Choices
+pub mod PointArrays
+pub mod Insertion
+pub mod Inserted

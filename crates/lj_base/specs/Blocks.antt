@@ -1,4 +1,4 @@
--- Blocks and sets as ascending lists of points, and what it is to cover. Points are numbered from 0.
+-- Blocks and sets as ascending lists of points, and when a list of blocks covers. Points are numbered from 0.
 use Rattle.std.specs.Prelude.{◌≡◌, ℕ, suc, ◌≤◌, ◌<◌, ◌⊎◌, List, [], ◌∷◌, length}
 use Rattle.std.specs.List.{AllByRecursion}
 use Rattle.lj_base.specs.Cells.{Triple}
@@ -8,7 +8,7 @@ abbrev pub Ascends : ℕ → ℕ → List ℕ → Type 0
 Ascends lo v [] = Unit {0}
 Ascends lo v (x ∷ xs) = (lo ≤ x) × (x < v) × Ascends (suc x) v xs
 
--- a block of k points below v; a set of t points below v is one too
+-- the list is a block of k points below v; a set of t points below v is meant by IsBlock v t
 abbrev pub IsBlock : ℕ → ℕ → List ℕ → Type 0
 IsBlock v k b = Ascends 0 v b × (length b ≡ k)
 

@@ -1,7 +1,7 @@
--- Cells: for which points, blocks and sets a covering is asked.
+-- Cells: the numbers of points, of points of a block, and of points of a set, that a covering is asked for.
 use Rattle.std.specs.Prelude.{ℕ, ◌≤◌}
 
--- v points, blocks of k points, and sets of t points that have to be covered
+-- v points, blocks of k points, and sets of t points, each of which has to be within a block
 pub record Triple : Type 0 where
   pub v : ℕ
   pub k : ℕ

@@ -6,3 +6,4 @@ pub mod Padding
 pub mod Streams
 pub mod Frames
 pub mod InMemory
+pub mod Bounds

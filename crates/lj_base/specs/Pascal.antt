@@ -1,4 +1,4 @@
--- A table of binomials, row by row: a test that computes.
+-- A table of binomials, row by row, and a test for it that computes.
 use Rattle.std.specs.Prelude.{ℕ, ◌+◌, Bool, true, false, ◌&&◌, ◌==◌, List, [], ◌∷◌}
 
 -- each number with the one before it

@@ -3,12 +3,14 @@ ghost use Rattle.std.specs.List.{list_all};
 ghost use Rattle.lj_base.specs.Colex.{choose};
 ghost use Rattle.lj_base.specs.Pascal.{are_rows_from, first_row};
 
+use crate::limits::COST_LIMIT;
+
 /// The number of sets of `r` points among `n`; 0 where `r > n`.
 pub fn binom(n: u64, r: u64) -> u64
     requires few_points { n ≤ 99 }
     requires small_sets { r ≤ 8 }
     ensures value { result ≡ choose n r }
-    ensures small { result < 2 ^ 38 }
+    ensures small { result < COST_LIMIT }
 {
     let table = pascal();
     table[n as usize][r as usize]
@@ -18,7 +20,7 @@ pub fn binom(n: u64, r: u64) -> u64
 fn pascal() -> &'static [[u64; 9]; 100]
     ensures rows { IsTrue (are_rows_from first_row result.now) }
     ensures len { length result.now ≡ 100 }
-    ensures small { IsTrue (list_all (list_all (λ x. nat_lt x (2 ^ 38))) result.now) }
+    ensures small { IsTrue (list_all (list_all (λ x. nat_lt x COST_LIMIT)) result.now) }
 {
     &PASCAL
 }

@@ -30,7 +30,7 @@ impl Block {
         }
     }
 
-    /// Adds a point behind those that are there.
+    /// Adds a point after the others, which are all below it.
     pub fn push(&mut self, p: u8)
         requires in_range { p < 99 }
         requires greatest { AllBelow p self.old }
@@ -40,7 +40,7 @@ impl Block {
         self.points.push(p);
     }
 
-    /// Adds a point at its place. False, and nothing changes, where it is there already.
+    /// Adds a point at its place. Returns false, and changes nothing, where the point is there already.
     pub fn insert(&mut self, p: u8) -> bool
         requires in_range { p < 99 }
         requires room { length self.old < 25 }

@@ -1,5 +1,8 @@
 ghost use Rattle.std.specs.Prelude.{◌≡◌, ℕ, ◌+◌, ◌-◌, ◌*◌, ◌<◌, ◌≤◌, ◌↔◌, IsTrue, Some, length, min, slice_get};
-ghost use Rattle.lj_base.specs.Frames.{InFrame, before_k, cells_of, index_of, size_of, up_to_v};
+ghost use Rattle.std.specs.Prelude.{slice_index};
+ghost use Rattle.lj_base.specs.Bounds.{at_cell};
+ghost use Rattle.lj_base.specs.Frames.{InFrame, before_k, cells_before_k, cells_before_v, cells_of, index_of, size_of};
+ghost use Rattle.lj_base.specs.Frames.{up_to_v};
 
 use crate::cells::Cell;
 use std::marker::Model;
@@ -37,19 +40,21 @@ impl Frame {
         c.v <= self.top.v && c.k <= self.top.k && c.t <= self.top.t
     }
 
-    /// The number of its cells.
+    /// The number of its cells. It takes a few multiplications.
     pub fn size(&self) -> u64
         ensures size { result ≡ size_of self.now }
         ensures cells { result ≡ length (cells_of self.now) }
+        ensures small { result ≤ 99 * (26 * 9) }
     {
         let top = self.top;
         up_to(top.k as u64, top.t as u64, top.v as u64)
     }
 
-    /// The place of a cell in ascending order of v, then k, then t, from 0. It takes a few multiplications.
+    /// The place of a cell in ascending order of `v`, then `k`, then `t`, from 0. It takes a few multiplications.
     pub fn index(&self, c: Cell) -> u64
         requires { InFrame self.now c }
         ensures index { result ≡ index_of self.now c }
+        ensures offsets { result ≡ cells_before_v self.now c.v + cells_before_k self.now c.k + c.t }
         ensures within { result < size_of self.now }
         ensures place { slice_get (cells_of self.now) result ≡ Some c }
     {
@@ -58,7 +63,34 @@ impl Frame {
         up_to(k, t, c.v as u64 - 1) + before(t, c.k as u64) + c.t as u64
     }
 
-    /// The cell at a place. It takes about as many steps as the frame has numbers v and k.
+    /// The number of the frame's cells with a lesser `v`: the index of the first cell with this one.
+    pub fn cells_before_v(&self, v: u8) -> u64
+        requires some { 1 ≤ v }
+        requires inside { v ≤ self.now.top.v }
+        ensures count { result ≡ cells_before_v self.now v }
+        ensures small { result ≤ 99 * (26 * 9) }
+    {
+        let top = self.top;
+        up_to(top.k as u64, top.t as u64, v as u64 - 1)
+    }
+
+    /// Of the frame's cells with one `v`, the number of those with a lesser `k`, whatever the `v` is.
+    pub fn cells_before_k(&self, k: u8) -> u64
+        requires { k ≤ self.now.top.k + 1 }
+        ensures count { result ≡ cells_before_k self.now k }
+        ensures small { result ≤ 26 * 9 }
+    {
+        before(self.top.t as u64, k as u64)
+    }
+
+    /// `cells_before_k` of each `k` up to 26.
+    pub fn row_offsets(&self) -> [usize; 27]
+        ensures { (k : ℕ) → k ≤ 26 → slice_index result k ≡ cells_before_k self.now k }
+    {
+        offsets_up_to(self.top.t as usize)
+    }
+
+    /// The cell at a place. It takes about as many steps as the frame has numbers `v` and `k`.
     pub fn cell(&self, i: u64) -> Cell
         requires { i < size_of self.now }
         ensures within { InFrame self.now result }
@@ -69,6 +101,29 @@ impl Frame {
         let (v, place) = layer_at(top, i);
         row_at(top, v, place)
     }
+
+    /// The number of a cell in a list that has one for each cell of the frame, in the order of `index`.
+    pub fn at_cell(&self, numbers: &[u64], c: Cell) -> u64
+        requires inside { InFrame self.now c }
+        requires count { length numbers.now ≡ size_of self.now }
+        ensures { result ≡ at_cell self.now numbers.now c }
+    {
+        numbers[self.index(c) as usize]
+    }
+}
+
+// For each k up to 26, the number of cells with one v whose k is below it.
+fn offsets_up_to(t: usize) -> [usize; 27]
+    requires { t ≤ 8 }
+    ensures { (k : ℕ) → k ≤ 26 → slice_index result k ≡ before_k t k }
+{
+    let mut offsets = [0; 27];
+    let mut total = 0;
+    for k in 0..27 {
+        offsets[k] = total;
+        total += k.min(t) + 1;
+    }
+    offsets
 }
 
 // The v of the cell at a place, and the cell's place among those with that v.
@@ -114,7 +169,7 @@ fn row_at(top: Cell, v: u8, place: u64) -> Cell
     unreachable!()
 }
 
-// The number of cells with a v of at most this.
+// The number of cells whose v is at most a number.
 fn up_to(k: u64, t: u64, v: u64) -> u64
     requires small_k { k ≤ 25 }
     requires small_t { t ≤ 8 }
@@ -129,7 +184,7 @@ fn up_to(k: u64, t: u64, v: u64) -> u64
     }
 }
 
-// The number of cells with one v whose k is below this.
+// The number of cells with one v whose k is below a number.
 fn before(t: u64, k: u64) -> u64
     requires small_t { t ≤ 8 }
     requires small_k { k ≤ 26 }
@@ -143,7 +198,7 @@ fn before(t: u64, k: u64) -> u64
     }
 }
 
-// The number of cells with a v of at most this, where no k is too great.
+// The number of cells whose v is at most a number, where no k up to it is too great for the frame.
 fn layers(t: u64, v: u64) -> u64
     requires small_t { t ≤ 8 }
     requires small_v { v ≤ 25 }

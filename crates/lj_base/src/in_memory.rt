@@ -1,4 +1,5 @@
-ghost use Rattle.std.specs.Prelude.{◌≡◌, ℕ, ◌-◌, ◌<◌, ◌≤◌, ◌↔◌, [], if◌then◌else◌, length, min, take, Contains, IfOk, IsErr, OnErr, OnOk, is_err};
+ghost use Rattle.std.specs.Prelude.{◌≡◌, ℕ, ◌-◌, ◌<◌, ◌≤◌, ◌↔◌, [], if◌then◌else◌, length, min, take};
+ghost use Rattle.std.specs.Prelude.{Contains, IfOk, IsErr, OnErr, OnOk, is_err};
 ghost use Rattle.lj_base.specs.InMemory.{FailsAt, one_more};
 ghost use Rattle.lj_base.specs.Streams.{Appends, Consumes, IsAtEnd, Keeps, Rose};
 
@@ -24,7 +25,13 @@ impl Model for MemSource {
 
     ghost Value = { Feed };
 
-    ghost view = { λ s. record { left = drop s.at s.bytes.items; piece = s.piece; fails = s.fails.items; calls = s.calls; faults = s.faults } };
+    ghost view = { λ s. record {
+      left = drop s.at s.bytes.items;
+      piece = s.piece;
+      fails = s.fails.items;
+      calls = s.calls;
+      faults = s.faults;
+    } };
 
     ghost invariant = { λ s. (s.at ≤ length s.bytes.items) × (1 ≤ s.piece) };
 }
@@ -45,14 +52,14 @@ impl MemSource {
         }
     }
 
-    /// How many calls there were. The number stays at the greatest u64 once it is there.
+    /// The number of calls. It stays at the greatest u64 once it is there.
     pub fn calls(&self) -> u64
         ensures { result ≡ self.now.calls }
     {
         self.calls
     }
 
-    /// How many of the calls failed.
+    /// The number of calls that failed.
     pub fn faults(&self) -> u64
         ensures { result ≡ self.now.faults }
     {
@@ -77,7 +84,14 @@ impl Model for MemSink {
 
     ghost Value = { Store };
 
-    ghost view = { λ s. record { written = s.bytes.items; room = s.room; piece = s.piece; fails = s.fails.items; calls = s.calls; faults = s.faults } };
+    ghost view = { λ s. record {
+      written = s.bytes.items;
+      room = s.room;
+      piece = s.piece;
+      fails = s.fails.items;
+      calls = s.calls;
+      faults = s.faults;
+    } };
 
     ghost invariant = { λ s. (length s.bytes.items ≤ s.room) × (s.room ≤ vec_capacity s.bytes) × (1 ≤ s.piece) };
 }
@@ -87,7 +101,14 @@ impl MemSink {
     /// calls whose numbers, from 1, are in `fails`, and where its room is full.
     pub fn new(alloc: Global, room: u64, piece: u64, fails: Vec<u64>) -> Result<MemSink, Memory>
         requires { 1 ≤ piece }
-        ensures { IfOk result (λ s. s ≡ record { written = []; room = room; piece = piece; fails = fails.items; calls = 0; faults = 0 }) }
+        ensures { IfOk result (λ s. s ≡ record {
+          written = [];
+          room = room;
+          piece = piece;
+          fails = fails.items;
+          calls = 0;
+          faults = 0;
+        }) }
     {
         let bytes = Vec::with_capacity(alloc, room as usize)?;
         Ok(MemSink {
@@ -107,14 +128,14 @@ impl MemSink {
         &self.bytes
     }
 
-    /// How many calls there were. The number stays at the greatest u64 once it is there.
+    /// The number of calls. It stays at the greatest u64 once it is there.
     pub fn calls(&self) -> u64
         ensures { result ≡ self.now.calls }
     {
         self.calls
     }
 
-    /// How many of the calls failed.
+    /// The number of calls that failed.
     pub fn faults(&self) -> u64
         ensures { result ≡ self.now.faults }
     {
@@ -131,7 +152,8 @@ impl Sink for MemSink {
 
     fn write(&mut self, bytes: &[u8]) -> Result<usize, Failed>
         ensures fails { IsErr result ↔ FailsAt self.old (length bytes.now) }
-        ensures takes { IfOk result (λ n. n ≡ min self.old.piece (min (length bytes.now) (self.old.room - length self.old.written))) }
+        ensures takes { IfOk result (λ n.
+            n ≡ min self.old.piece (min (length bytes.now) (self.old.room - length self.old.written))) }
         ensures calls { self.new.calls ≡ one_more self.old.calls }
         ensures faults { self.new.faults ≡ (if is_err result then one_more self.old.faults else self.old.faults) }
         ensures plan { (self.new.fails ≡ self.old.fails) × (self.new.piece ≡ self.old.piece) × (self.new.room ≡ self.old.room) }
@@ -176,12 +198,12 @@ impl Source for MemSource {
         ensures gives { IfOk result (λ n. n ≡ min self.old.piece (min (length buf.new) (length self.old.left))) }
         ensures calls { self.new.calls ≡ one_more self.old.calls }
         ensures faults { self.new.faults ≡ (if is_err result then one_more self.old.faults else self.old.faults) }
-        ensures stays { OnErr result (self.new.left ≡ self.old.left) }
         ensures plan { (self.new.fails ≡ self.old.fails) × (self.new.piece ≡ self.old.piece) }
 
         ensures count { IfOk result (λ n. n ≤ length buf.new) }
         ensures bytes { IfOk result (λ n. Consumes (Some self.old.left) (Some self.new.left) (take n buf.new)) }
         ensures end { result ≡ Ok 0 → 0 < length buf.new → IsAtEnd (Some self.new.left) }
+        ensures nothing { OnErr result (Keeps (Some self.old.left) (Some self.new.left)) }
         ensures quiet { OnOk result (self.new.faults ≡ self.old.faults) }
         ensures failed { OnErr result (Rose self.old.faults self.new.faults) }
         ensures never_falls { self.old.faults ≤ self.new.faults }
@@ -201,7 +223,7 @@ impl Source for MemSource {
     }
 }
 
-// Copies the front of what is left, as much as one call gives.
+// Copies the front of the bytes that are left, as many as one call gives.
 fn copy_front(left: &[u8], piece: u64, buf: &mut [u8]) -> usize
     ensures count { result ≡ min piece (min (length buf.old) (length left.now)) }
     ensures bytes { take result buf.new ≡ take result left.now }

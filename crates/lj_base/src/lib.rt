@@ -7,6 +7,8 @@ mod cells;
 mod errors;
 mod frames;
 mod in_memory;
+mod laws;
+pub mod limits;
 mod points;
 mod rows;
 mod standard;
@@ -18,6 +20,10 @@ pub use cells::{Cell, Outside};
 pub use errors::Memory;
 pub use frames::Frame;
 pub use in_memory::{MemSink, MemSource};
+pub use laws::{
+    at_cell_law, cells_law, choose_law, choose_product_law, index_law, index_order_law,
+};
+pub use limits::{COST_LIMIT, MAX_BLOCKS, MAX_INPUT, MAX_MARKS, MAX_SETS};
 pub use points::Points;
 pub use rows::Row;
 pub use standard::{StdSink, StdSource};

@@ -13,17 +13,20 @@ pub struct Points<const N: usize> {
 
 impl<const N: usize> Model for Points<N> {
     ghost use Rattle.std.specs.Prelude.{ℕ, List, ◌-◌, ◌++◌, length, take, replicate};
-    ghost use Rattle.lj_base.specs.Padding.{Lies, array_back, count_back};
+    ghost use Rattle.lj_base.specs.Padding.{HoldsPoints, array_back, count_back};
 
     ghost Value = { List ℕ };
 
     ghost view = { λ p. take p.len p.points };
 
-    ghost invariant = { λ p. Lies N p.len p.points };
+    ghost invariant = { λ p. HoldsPoints N p.len p.points };
 
     ghost inverse = { λ s. record { points = s ++ replicate (N - length s) 0; len = length s } };
 
-    ghost inverse_ok = { λ p h i. record { points = array_back N p.len p.points h i; len = count_back N p.len p.points h i } };
+    ghost inverse_ok = { λ p h i. record {
+      points = array_back N p.len p.points h.padding i;
+      len = count_back N p.len p.points h.padding i;
+    } };
 }
 
 impl<const N: usize> Points<N> {
@@ -37,7 +40,7 @@ impl<const N: usize> Points<N> {
         }
     }
 
-    /// Adds a point behind those that are there.
+    /// Adds a point after the others, which are all below it.
     pub fn push(&mut self, p: u8)
         requires in_range { p < 99 }
         requires greatest { AllBelow p self.old }
@@ -48,7 +51,7 @@ impl<const N: usize> Points<N> {
         self.len += 1;
     }
 
-    /// Adds a point at its place. False, and nothing changes, where it is there already.
+    /// Adds a point at its place. Returns false, and changes nothing, where the point is there already.
     pub fn insert(&mut self, p: u8) -> bool
         requires in_range { p < 99 }
         requires room { length self.old < N }

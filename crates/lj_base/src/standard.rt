@@ -3,7 +3,7 @@ ghost use Rattle.std.specs.Prelude.{◌≡◌};
 use crate::streams::{Failed, Sink, Source};
 use std::io::{Read, Write};
 
-/// A reader as a source. Standard input tells nothing of what it has left; a reader that tells it is believed.
+/// A reader as a source. Standard input does not report what it has left; where a reader does, so does the source.
 #[derive(Drop)]
 pub struct StdSource<R: Read + Drop> {
     reader: R,
@@ -11,9 +11,10 @@ pub struct StdSource<R: Read + Drop> {
 }
 
 impl<R: Read + Drop> StdSource<R> {
-    /// Takes the runtime's reader.
+    /// A source of all that the reader has left. Nothing is read yet.
     pub fn new(reader: R) -> StdSource<R>
-        ensures { ⟦<StdSource<R> as Source>⟧.faults result ≡ 0 }
+        ensures left { ⟦<StdSource<R> as Source>⟧.left result ≡ R.remaining reader }
+        ensures faults { ⟦<StdSource<R> as Source>⟧.faults result ≡ 0 }
     {
         StdSource { reader, faults: 0 }
     }
@@ -39,7 +40,7 @@ impl<R: Read + Drop> Source for StdSource<R> {
     }
 }
 
-/// A writer as a sink. Standard output tells nothing of what was written; a writer that tells it is believed.
+/// A writer as a sink. Standard output does not report what was written; where a writer does, so does the sink.
 #[derive(Drop)]
 pub struct StdSink<W: Write + Drop> {
     writer: W,
@@ -47,9 +48,10 @@ pub struct StdSink<W: Write + Drop> {
 }
 
 impl<W: Write + Drop> StdSink<W> {
-    /// Takes the runtime's writer.
+    /// A sink that writes after what the writer has. Nothing is written yet.
     pub fn new(writer: W) -> StdSink<W>
-        ensures { ⟦<StdSink<W> as Sink>⟧.faults result ≡ 0 }
+        ensures written { ⟦<StdSink<W> as Sink>⟧.written result ≡ W.contents writer }
+        ensures faults { ⟦<StdSink<W> as Sink>⟧.faults result ≡ 0 }
     {
         StdSink { writer, faults: 0 }
     }

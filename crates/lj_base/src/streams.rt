@@ -10,35 +10,37 @@ pub struct Failed;
 
 /// Where bytes come from.
 pub trait Source {
-    /// The bytes that are left, where the source tells them.
+    /// The bytes that are left, where the source reports them.
     ghost left: { Self → Option (List ℕ) };
 
-    /// How often it has failed.
+    /// How many of its calls failed.
     ghost faults: { Self → ℕ };
 
-    /// Puts the next bytes into the front of `buf` and tells how many: 0, for a buffer that is not empty, at the end.
+    /// Puts the next bytes at the front of `buf` and returns their number: 0, for a buffer that is not empty, at the
+    /// end. After an error no byte is lost: the next read goes on where this one began.
     fn read(&mut self, buf: &mut [u8]) -> Result<usize, Failed>
         ensures count { IfOk result (λ n. n ≤ length buf.new) }
         ensures bytes { IfOk result (λ n. Consumes (left self.old) (left self.new) (take n buf.new)) }
         ensures end { result ≡ Ok 0 → 0 < length buf.new → IsAtEnd (left self.new) }
+        ensures nothing { OnErr result (Keeps (left self.old) (left self.new)) }
         ensures quiet { OnOk result (faults self.new ≡ faults self.old) }
         ensures failed { OnErr result (Rose (faults self.old) (faults self.new)) }
         ensures never_falls { faults self.old ≤ faults self.new };
 
-    /// How often it has failed. The count stays at the greatest u64 once it is there.
+    /// How many of its calls failed. The count stays at the greatest u64 once it is there.
     fn faults(&self) -> u64
         ensures { result ≡ faults self.now };
 }
 
 /// Where bytes go.
 pub trait Sink {
-    /// The bytes that were written, where the sink tells them.
+    /// The bytes that were written, where the sink reports them.
     ghost written: { Self → Option (List ℕ) };
 
-    /// How often it has failed.
+    /// How many of its calls failed.
     ghost faults: { Self → ℕ };
 
-    /// Takes some of the bytes, from the front, and tells how many: 0 only where there are none.
+    /// Takes some of the bytes, from the front, and returns their number: 0 only where there are none.
     fn write(&mut self, bytes: &[u8]) -> Result<usize, Failed>
         ensures count { IfOk result (λ n. n ≤ length bytes.now) }
         ensures some { IfOk result (λ n. 0 < length bytes.now → 1 ≤ n) }
@@ -49,7 +51,7 @@ pub trait Sink {
         ensures failed { OnErr result (Rose (faults self.old) (faults self.new)) }
         ensures never_falls { faults self.old ≤ faults self.new };
 
-    /// How often it has failed. The count stays at the greatest u64 once it is there.
+    /// How many of its calls failed. The count stays at the greatest u64 once it is there.
     fn faults(&self) -> u64
         ensures { result ≡ faults self.now };
 }

@@ -1,11 +1,11 @@
 -- Marks, rank by rank.
-use Rattle.std.proofs.Common.{◌≡◌, ◌≢◌, ℕ, zero, suc, ◌+◌, ◌-◌, ◌*◌, ◌/◌, ◌%◌, ◌^◌, ◌<◌, ◌≤◌, ◌==◌, ⊎_elim, Bool, true, false, not, cond, List, ◌++◌, length, take, drop, get_or, replicate, bit_or, Some, None, refl, sym, ap, ◌∙◌, subst, arith}
+use Rattle.std.proofs.Common.{◌≡◌, ◌≢◌, ℕ, zero, suc, ◌+◌, ◌-◌, ◌*◌, ◌/◌, ◌%◌, ◌^◌, ◌<◌, ◌≤◌, ◌==◌, ⊎_elim, Bool, true, false, not, cond, List, ◌++◌, length, take, drop, get_or, replicate, bit_or, bit_and, Some, None, refl, sym, ap, ◌∙◌, subst, arith}
 use Rattle.std.proofs.Math.ListN.{set}
 use Rattle.std.proofs.lemmas.Bool.{cases_eq, cases_lt, lt-ltb, le-ltb}
 use Rattle.std.proofs.lemmas.List.{ext_get_or, length-set, length-replicate, get_or-set_same, get_or-set_other, get_or-replicate, get_or-take, get_or_append_left, get_or-append_right, get_or-drop, take-append-le}
 use Rattle.std.proofs.lemmas.List.FromFn.{length-map-range_with_len, get_or-map-range_with_len, take-map-range_with_len}
-use Rattle.std.proofs.lemmas.Nat.Bits.{bit_at-zero, bit_at_ones, bit_at_set_same, bit_at_set_other, bit_at-trailing_ones}
-use Rattle.std.specs.Int.{bit_at, trailing_ones, w64}
+use Rattle.std.proofs.lemmas.Nat.Bits.{bit_at-zero, bit_at_ones, bit_at_set_same, bit_at_set_other, bit_at_clear_same, bit_at_clear_other, bit_at-trailing_ones}
+use Rattle.std.specs.Int.{bit_at, bit_not, trailing_ones, w64}
 use Rattle.std.proofs.lemmas.List.Sums.{position_or_len_is}
 use Rattle.std.specs.List.{position, position_or_len, length_refill}
 use Rattle.lj_bitmap.specs.Marks.{is_marked, marks_of, overwritten}
@@ -33,42 +33,79 @@ marks_of-zeros m n =
     marks_of-ext (replicate m 0) n (replicate n false) (length-replicate n false)
     (λ r below. ap (λ w. bit_at w (r % 64) == 1) (get_or-zeros m (r / 64)) ∙ ap (λ b. b == 1) (bit_at-zero (r % 64)) ∙ sym (get_or-replicate n r false false below))
 
+-- the words with the bit of one rank set, and those with it cleared
+abbrev pub with_bit : List ℕ → ℕ → List ℕ
+with_bit words r = set words (r / 64) (bit_or (get_or words (r / 64) 0) (1 * 2 ^ (r % 64) % 2 ^ 64))
+
+abbrev pub without_bit : List ℕ → ℕ → List ℕ
+without_bit words r = set words (r / 64) (bit_and (get_or words (r / 64) 0) (bit_not w64 (1 * 2 ^ (r % 64) % 2 ^ 64)))
+
 -- a set bit is a mark at its rank, and elsewhere nothing changes
-is_marked-set_same : (words : List ℕ) (r : ℕ) → r / 64 < length words
-    → is_marked (set words (r / 64) (bit_or (get_or words (r / 64) 0) (1 * 2 ^ (r % 64) % 2 ^ 64))) r ≡ true
+is_marked-set_same : (words : List ℕ) (r : ℕ) → r / 64 < length words → is_marked (with_bit words r) r ≡ true
 is_marked-set_same words r inside =
     ap (λ w. bit_at w (r % 64) == 1) (get_or-set_same words (r / 64) _ 0 inside)
     ∙ ap (λ b. b == 1) (bit_at_set_same w64 (get_or words (r / 64) 0) (r % 64) (omega arith))
 
 is_marked-set_other : (words : List ℕ) (r k : ℕ) → r / 64 < length words → k ≢ r
-    → is_marked (set words (r / 64) (bit_or (get_or words (r / 64) 0) (1 * 2 ^ (r % 64) % 2 ^ 64))) k ≡ is_marked words k
+    → is_marked (with_bit words r) k ≡ is_marked words k
 is_marked-set_other words r k inside other =
     ⊎_elim
     (λ same.
     let differ : k % 64 ≢ r % 64 = λ e. other (omega arith) in
-    ap (λ i. bit_at (get_or (set words (r / 64) (bit_or (get_or words (r / 64) 0) (1 * 2 ^ (r % 64) % 2 ^ 64))) i 0) (k % 64) == 1) same
+    ap (λ i. bit_at (get_or (with_bit words r) i 0) (k % 64) == 1) same
     ∙ ap (λ w. bit_at w (k % 64) == 1) (get_or-set_same words (r / 64) _ 0 inside)
     ∙ ap (λ b. b == 1) (bit_at_set_other w64 (get_or words (r / 64) 0) (r % 64) (omega arith) (k % 64) differ)
     ∙ ap (λ i. bit_at (get_or words i 0) (k % 64) == 1) (sym same))
     (λ differ. ap (λ w. bit_at w (k % 64) == 1) (get_or-set_other words (r / 64) (k / 64) _ 0 differ))
     (cases_eq (k / 64) (r / 64))
 
-pub marks_of-set : (words : List ℕ) (n r : ℕ) → r / 64 < length words → r < n
-    → marks_of (set words (r / 64) (bit_or (get_or words (r / 64) 0) (1 * 2 ^ (r % 64) % 2 ^ 64))) n ≡ set (marks_of words n) r true
-marks_of-set words n r inside below =
+-- a cleared bit is no mark at its rank, and elsewhere nothing changes
+is_marked-clear_same : (words : List ℕ) (r : ℕ) → r / 64 < length words → is_marked (without_bit words r) r ≡ false
+is_marked-clear_same words r inside =
+    ap (λ w. bit_at w (r % 64) == 1) (get_or-set_same words (r / 64) _ 0 inside)
+    ∙ ap (λ b. b == 1) (bit_at_clear_same w64 (get_or words (r / 64) 0) (r % 64) (omega arith))
+
+is_marked-clear_other : (words : List ℕ) (r k : ℕ) → r / 64 < length words → k ≢ r
+    → is_marked (without_bit words r) k ≡ is_marked words k
+is_marked-clear_other words r k inside other =
+    ⊎_elim
+    (λ same.
+    let differ : k % 64 ≢ r % 64 = λ e. other (omega arith) in
+    ap (λ i. bit_at (get_or (without_bit words r) i 0) (k % 64) == 1) same
+    ∙ ap (λ w. bit_at w (k % 64) == 1) (get_or-set_same words (r / 64) _ 0 inside)
+    ∙ ap (λ b. b == 1) (bit_at_clear_other w64 (get_or words (r / 64) 0) (r % 64) (omega arith) (k % 64) (omega arith) differ)
+    ∙ ap (λ i. bit_at (get_or words i 0) (k % 64) == 1) (sym same))
+    (λ differ. ap (λ w. bit_at w (k % 64) == 1) (get_or-set_other words (r / 64) (k / 64) _ 0 differ))
+    (cases_eq (k / 64) (r / 64))
+
+-- words that differ in one rank's mark alone
+marks_of-changed : (words new : List ℕ) (n r : ℕ) (mark : Bool) → r < n → is_marked new r ≡ mark
+    → ((k : ℕ) → k ≢ r → is_marked new k ≡ is_marked words k) → marks_of new n ≡ set (marks_of words n) r mark
+marks_of-changed words new n r mark below here others =
     let count = length-marks_of words n in
-    marks_of-ext _ n (set (marks_of words n) r true) (length-set (marks_of words n) r true ∙ count)
+    let after : List Bool = set (marks_of words n) r mark in
+    marks_of-ext new n after (length-set (marks_of words n) r mark ∙ count)
     (λ k small.
     ⊎_elim
     (λ same.
-    ap (is_marked _) same ∙ is_marked-set_same words r inside
-    ∙ sym (ap (λ j. get_or (set (marks_of words n) r true) j false) same ∙ get_or-set_same (marks_of words n) r true false (omega (arith, count))))
-    (λ other.
-    is_marked-set_other words r k inside other
-    ∙ sym (get_or-set_other (marks_of words n) r k true false other ∙ get_or-marks_of words n k false small))
+    ap (is_marked new) same ∙ here
+    ∙ sym (ap (λ j. get_or after j false) same ∙ get_or-set_same (marks_of words n) r mark false (omega (arith, count))))
+    (λ other. others k other ∙ sym (get_or-set_other (marks_of words n) r k mark false other ∙ get_or-marks_of words n k false small))
     (cases_eq k r))
 
--- new words, with the old ones behind them where they are too few
+pub marks_of-set : (words : List ℕ) (n r : ℕ) → r / 64 < length words → r < n
+    → marks_of (with_bit words r) n ≡ set (marks_of words n) r true
+marks_of-set words n r inside below =
+    marks_of-changed words (with_bit words r) n r true below (is_marked-set_same words r inside)
+    (λ k other. is_marked-set_other words r k inside other)
+
+pub marks_of-clear : (words : List ℕ) (n r : ℕ) → r / 64 < length words → r < n
+    → marks_of (without_bit words r) n ≡ set (marks_of words n) r false
+marks_of-clear words n r inside below =
+    marks_of-changed words (without_bit words r) n r false below (is_marked-clear_same words r inside)
+    (λ k other. is_marked-clear_other words r k inside other)
+
+-- new words, followed by the old ones where they are too few
 is_marked-written : (words ws : List ℕ) (n m r : ℕ) → r / 64 < m → r < n
     → is_marked (take m (ws ++ drop (length ws) words)) r ≡ get_or (marks_of ws (64 * length ws) ++ drop (64 * length ws) (marks_of words n)) r false
 is_marked-written words ws n m r inside below =

@@ -5,7 +5,7 @@ ghost use Rattle.lj_bitmap.specs.Marks.{marks_of, overwritten};
 ghost use Rattle.lj_bitmap.specs.Lending.{LendsWords};
 
 use crate::words::full_words;
-use lj_base::Memory;
+use lj_base::{MAX_SETS, Memory};
 use std::alloc::Global;
 use std::marker::Model;
 
@@ -17,35 +17,36 @@ pub struct RankMap {
 }
 
 impl Model for RankMap {
-    ghost use Rattle.std.specs.Prelude.{List, Bool};
+    ghost use Rattle.std.specs.Prelude.{◌≡◌, ◌≤◌, ◌+◌, ◌/◌, List, Bool, length};
+    ghost use Rattle.lj_base.specs.declared.limits.TheConstants.{MAX_SETS};
+    ghost use Rattle.lj_bitmap.specs.Marks.{marks_of};
 
     ghost Value = { List Bool };
 
-    ghost use Rattle.std.specs.Prelude.{◌≡◌, ◌≤◌, ◌+◌, ◌/◌, ◌^◌, length};
-    ghost use Rattle.lj_bitmap.specs.Marks.{marks_of};
-
     ghost view = { λ m. marks_of m.words.items m.len };
 
-    ghost invariant = { λ m. (length m.words.items ≡ (m.len + 63) / 64) × (m.len ≤ 2 ^ 27) };
+    ghost invariant = { λ m. (length m.words.items ≡ (m.len + 63) / 64) × (m.len ≤ MAX_SETS) };
 }
 
 impl RankMap {
-    /// A map of the ranks below `len`, none of them marked.
+    /// A map of the ranks below `len`, none of them marked. It takes a bit of memory for each, and is no larger than a
+    /// check needs.
     pub fn new(alloc: Global, len: u64) -> Result<RankMap, Memory>
-        requires { len ≤ 2 ^ 27 }
+        requires { len ≤ MAX_SETS }
         ensures { IfOk result (λ marks. marks ≡ replicate len false) }
     {
         let words = vec![in alloc; 0; len.div_ceil(64) as usize]?;
         Ok(RankMap { words, len })
     }
 
-    /// How many ranks there are.
+    /// The number of ranks.
     pub fn len(&self) -> u64
         ensures { result ≡ length self.now }
     {
         self.len
     }
 
+    /// Marks a rank.
     pub fn mark(&mut self, r: u64)
         requires { r < length self.old }
         ensures { self.new ≡ slice_set self.old r true }
@@ -53,6 +54,15 @@ impl RankMap {
         self.words[(r / 64) as usize] |= 1 << (r % 64);
     }
 
+    /// Takes the mark from a rank.
+    pub fn unmark(&mut self, r: u64)
+        requires { r < length self.old }
+        ensures { self.new ≡ slice_set self.old r false }
+    {
+        self.words[(r / 64) as usize] &= !(1 << (r % 64));
+    }
+
+    /// Whether a rank is marked.
     pub fn has(&self, r: u64) -> bool
         requires { r < length self.now }
         ensures { result ≡ slice_index_or self.now r false }
@@ -72,12 +82,13 @@ impl RankMap {
         if r < self.len { Some(r) } else { None }
     }
 
-    /// The words: rank `r` is bit `r % 64` of word `r / 64`. Bits behind the last rank mean nothing.
+    /// The words: rank `r` is bit `r % 64` of word `r / 64`. The bits after those of the last rank have no meaning.
     pub fn words_mut(&mut self) -> &mut [u64]
         ensures* writes_back { sem 𝓛 (LendsWords self.entry result) }
         ensures count { length result.now ≡ (length self.old + 63) / 64 }
         ensures value { marks_of result.now (length self.old) ≡ self.old }
-        ensures whole { (words : _) → length words ≡ (length self.old + 63) / 64 → overwritten self.old words ≡ marks_of words (length self.old) }
+        ensures whole { (words : _) → length words ≡ (length self.old + 63) / 64
+            → overwritten self.old words ≡ marks_of words (length self.old) }
     {
         self.words.as_mut_slice()
     }

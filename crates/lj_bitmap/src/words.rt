@@ -4,7 +4,7 @@ ghost use Rattle.lj_bitmap.specs.Words.{AreFull};
 
 use std::simd::prelude::*;
 
-// How many words from the first on have all bits set.
+// The number of words from the first on that have all bits set.
 pub fn full_words(words: &[u64]) -> usize
     ensures within { result ≤ length words.now }
     ensures full { AreFull words.now 0 result }

@@ -1,10 +1,12 @@
-ghost use Rattle.std.specs.Prelude.{◌≡◌, ◌+◌, ◌-◌, ◌<◌, ◌≤◌, ◌++◌, ◌↔◌, IfOk, IsTrue, OnErr, OnOk, length, map, vec_capacity, vec_len};
-ghost use Rattle.std.specs.List.{count_by};
-ghost use Rattle.lj_base.specs.Blocks.{AllBelow, Has};
-ghost use Rattle.lj_cover.specs.Operations.{has_point, unite};
-ghost use Rattle.lj_cover.specs.BlockLists.{add_blocks, derived_blocks, derived2_blocks, drop_blocks, grow_blocks, join_blocks};
+ghost use Rattle.std.specs.Prelude.{◌≡◌, ◌+◌, ◌-◌, ◌<◌, ◌≤◌, ◌++◌, IfOk, OnErr, OnOk, length, map};
+ghost use Rattle.std.specs.Prelude.{vec_capacity, vec_len};
+ghost use Rattle.lj_base.specs.Blocks.{AllBelow};
+ghost use Rattle.lj_cover.specs.Operations.{unite};
+ghost use Rattle.lj_cover.specs.BlockLists.{add_blocks, derived_blocks, derived2_blocks, drop_blocks, grow_blocks};
+ghost use Rattle.lj_cover.specs.BlockLists.{join_blocks};
 ghost use Rattle.lj_cover.specs.Rules.{triple};
 
+use crate::counts::has_both;
 use crate::designs::Design;
 use crate::operations::{add_point, drop_last, fill, unite, without};
 use lj_base::{Block, Cell, Memory};
@@ -144,26 +146,6 @@ pub fn derive2_design(alloc: Global, d: &Design, x: u8, y: u8) -> Result<Design,
         },
         blocks,
     ))
-}
-
-fn has_both(b: &Block, x: u8, y: u8) -> bool
-    ensures { IsTrue result ↔ (Has b.now x × Has b.now y) }
-{
-    b.has(x) && b.has(y)
-}
-
-/// The number of blocks through point `x`.
-pub fn degree(d: &Design, x: u8) -> u64
-    requires { x < d.now.cell.v }
-    ensures { result ≡ count_by (λ b. has_point b x) d.now.blocks }
-{
-    let mut count = 0;
-    for block in d.blocks() {
-        if block.has(x) {
-            count += 1;
-        }
-    }
-    count
 }
 
 /// Appends the union of every block of `a` with every block of `b`, shifted up by `v1`; those of `b` run faster.

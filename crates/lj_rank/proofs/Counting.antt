@@ -1,27 +1,16 @@
 -- The numbers of sets, and the ranks below them.
-use Rattle.std.proofs.Common.{◌≡◌, ℕ, zero, suc, ◌+◌, ◌^◌, ◌<◌, ◌≤◌, List, [], ◌∷◌, ◌++◌, length, take, get_or, refl, ap, arith}
-use Rattle.std.proofs.Math.Nat.{mul-le-mul_left, pow-le-pow_left, pow-le-pow_right, pow-zero, pow-suc}
+use Rattle.std.proofs.Common.{◌≡◌, ℕ, zero, suc, ◌+◌, ◌<◌, ◌≤◌, List, [], ◌∷◌, ◌++◌, length, take, get_or, ap, arith}
 use Rattle.std.proofs.lemmas.List.{length_push, length-take-le, take_more}
 use Rattle.lj_base.specs.Blocks.{Ascends}
 use Rattle.lj_base.specs.Colex.{choose}
 use Rattle.lj_rank.specs.Ranks.{rank_from, rank_of}
-use Rattle.lj_rank.proofs.Ascending.{top_cases}
-
--- there is no set of more points than there are
-pub choose-past : (n k : ℕ) → n < k → choose n k ≡ 0
-choose-past n zero h = absurd (omega arith)
-choose-past zero (suc k) h = refl
-choose-past (suc n) (suc k) h = omega (arith, choose-past n (suc k) (omega arith), choose-past n k (omega arith))
-
--- all points make one set
-pub choose-all : (n : ℕ) → choose n n ≡ 1
-choose-all zero = refl
-choose-all (suc n) = omega (arith, choose-past n (suc n) (omega arith), choose-all n)
+use Rattle.lj_base.proofs.Ascending.{top_cases}
 
 -- where there is a set of some points there is a point
-pub choose-some : (n k r : ℕ) → 0 < k → r < choose n k → 0 < n
-choose-some zero k r points h = absurd (omega (arith, choose-past 0 k points, h))
-choose-some (suc n) k r points h = omega arith
+pub choose-point : (n k r : ℕ) → 0 < k → r < choose n k → 0 < n
+choose-point zero zero r points h = absurd (omega arith)
+choose-point zero (suc k) r points h = absurd (omega (arith, h))
+choose-point (suc n) k r points h = omega arith
 
 choose-grows : (n k : ℕ) → choose n k ≤ choose (suc n) k
 choose-grows n zero = omega arith
@@ -56,20 +45,6 @@ rank-below (suc v) s h =
     let same = ap (λ n. choose (suc v) n) long in
     omega (arith, same, rank-push xs v, rank-below v xs k))
     s h
-
--- a coarse bound
-choose-le_pow : (n k : ℕ) → choose n k ≤ n ^ k
-choose-le_pow n zero = omega (arith, pow-zero n)
-choose-le_pow zero (suc k) = omega arith
-choose-le_pow (suc n) (suc k) =
-    let wider = mul-le-mul_left (n + 1) (pow-le-pow_left {n = n} {m = suc n} (omega arith) k) in
-    omega (arith, choose-le_pow n (suc k), choose-le_pow n k, pow-suc n k, pow-suc (suc n) k, wider)
-
--- the ranks of sets within the limits fit into 64 bits
-pub rank-fits : (s : List ℕ) → Ascends 0 99 s → length s ≤ 8 → rank_of s < 2 ^ 64
-rank-fits s h short =
-    let power = pow-le-pow_right {n = 99} (omega arith) {i = length s} {j = 8} short in
-    omega (arith, rank-below 99 s h, choose-le_pow 99 (length s), power)
 
 -- one more point counted
 pub rank-take_more : (s : List ℕ) (i : ℕ) → i < length s → rank_of (take (i + 1) s) ≡ rank_of (take i s) + choose (get_or s i 0) (i + 1)

@@ -7,9 +7,8 @@ use Rattle.std.specs.Option.{option_map}
 use Rattle.std.specs.List.{slice_get, All, Contains}
 use Rattle.lj_base.specs.Blocks.{Ascends, IsBlock}
 use Rattle.lj_base.specs.Colex.{sets}
-use Rattle.lj_base.proofs.Lists.{length-sets}
+use Rattle.lj_base.proofs.Ascending.{Ascends-push, Ascends-wider, length-sets, top_cases}
 use Rattle.lj_rank.specs.Ranks.{rank_of}
-use Rattle.lj_rank.proofs.Ascending.{top_cases, Ascends-push, Ascends-widen}
 use Rattle.lj_rank.proofs.Counting.{rank-push}
 
 slice_get-append_left : {X : Type 0} (xs ys : List X) (i : ℕ) (x : X) → slice_get xs i ≡ Some x → slice_get (xs ++ ys) i ≡ Some x
@@ -60,7 +59,7 @@ sets-are_blocks (suc v) (suc k) =
     let P : List ℕ → Type 0 = IsBlock (suc v) (suc k) in
     let f : List ℕ → List ℕ = λ s. s ++ v ∷ [] in
     All-append P (sets v (suc k)) (map f (sets v k))
-    (All-weaker (IsBlock v (suc k)) P (λ s h. (Ascends-widen 0 v (suc v) s (omega arith) h.0, h.1)) (sets v (suc k)) (sets-are_blocks v (suc k)))
+    (All-weaker (IsBlock v (suc k)) P (λ s h. (Ascends-wider 0 0 v (suc v) s (omega arith) (omega arith) h.0, h.1)) (sets v (suc k)) (sets-are_blocks v (suc k)))
     (All-map P f (sets v k)
     (All-weaker (IsBlock v k) (λ s. P (f s)) (λ s h. (Ascends-push 0 v (suc v) s (omega arith) (omega arith) h.0, omega (arith, length_push s v, h.1))) (sets v k) (sets-are_blocks v k)))
 

@@ -4,7 +4,7 @@ use Rattle.std.proofs.lemmas.List.{length_push}
 use Rattle.lj_base.specs.Blocks.{Ascends, Has}
 use Rattle.lj_base.specs.Colex.{choose, Precedes}
 use Rattle.lj_rank.specs.Ranks.{rank_of}
-use Rattle.lj_rank.proofs.Ascending.{top_cases, Has-below, Has-last, Has-push, Has-push_cases}
+use Rattle.lj_base.proofs.Ascending.{Has-below, Has-last, Has-push, Has-push_cases, top_cases}
 use Rattle.lj_rank.proofs.Counting.{rank-push, rank-below}
 
 -- a set with the top point stands after each without it

@@ -1,29 +1,18 @@
 -- The sets of a block: without its last point, and with it.
-use Rattle.std.proofs.Common.{◌≡◌, ℕ, zero, suc, ◌+◌, ◌-◌, ◌<◌, ◌≤◌, inl, inr, ⊎_elim, List, [], ◌∷◌, ◌++◌, length, take, get_or, refl, sym, ap, ◌∙◌, subst, arith}
+use Rattle.std.proofs.Common.{◌≡◌, ◌⊎◌, ◌↔◌, ℕ, zero, suc, ◌+◌, ◌-◌, ◌<◌, ◌≤◌, inl, inr, ⊎_elim, List, [], ◌∷◌, ◌++◌, length, take, get_or, refl, sym, ap, ◌∙◌, subst, arith}
 use Rattle.std.proofs.lemmas.List.{length_push}
 use Rattle.lj_base.specs.Blocks.{Ascends, Has, Within}
 use Rattle.lj_base.specs.Colex.{choose}
 use Rattle.lj_rank.specs.Ranks.{rank_of, IsSubset, IsFirstFrom}
-use Rattle.lj_rank.proofs.Ascending.{top_cases, Ascends-push, Ascends-widen, Has-below, Has-last, Has-push, Has-push_cases}
+use Rattle.lj_base.proofs.Ascending.{AllBelow-from_Has, Ascends-narrow, Has-from_Within, Within-from_Has}
+use Rattle.lj_base.proofs.Ascending.{Ascends-before, Ascends-get_or_below, Ascends-push, Ascends-wider, Has-below, Has-last, Has-push, Has-push_cases, top_cases}
+use Rattle.lj_base.proofs.Lists.{take-by_last}
 use Rattle.lj_rank.proofs.Counting.{rank-below, rank-push}
-use Rattle.lj_rank.proofs.Places.{Ascends-get_or_below, Ascends-before, take-by_last}
-
-Within-from_Has : (s b : List ℕ) → ((p : ℕ) → Has s p → Has b p) → Within s b
-Within-from_Has [] b h = tt
-Within-from_Has (x ∷ xs) b h = (h x (inl refl), Within-from_Has xs b (λ p has. h p (inr has)))
-
-Has-from_Within : (s b : List ℕ) → Within s b → (p : ℕ) → Has s p → Has b p
-Has-from_Within [] b h p has = absurd has
-Has-from_Within (x ∷ xs) b h p (inl e) = subst (Has b) e h.0
-Has-from_Within (x ∷ xs) b h p (inr rest) = Has-from_Within xs b h.1 p rest
-
-Ascends-narrow : (lo v w : ℕ) (xs : List ℕ) → Ascends lo v xs → ((p : ℕ) → Has xs p → p < w) → Ascends lo w xs
-Ascends-narrow lo v w [] h below = tt
-Ascends-narrow lo v w (x ∷ xs) h below = (h.0, below x (inl refl), Ascends-narrow (suc x) v w xs h.2 (λ p has. below p (inr has)))
 
 -- a set of the block is below what the block is below
 pub Ascends-subset : (v t : ℕ) (b s : List ℕ) → Ascends 0 v b → IsSubset b t s → Ascends 0 v s
-Ascends-subset v t b s k h = Ascends-narrow 0 99 v s h.0.0 (λ p has. Has-below 0 v p b k (Has-from_Within s b h.1 p has))
+Ascends-subset v t b s k h =
+    Ascends-narrow 0 99 v s h.0.0 (AllBelow-from_Has v s (λ p has. Has-below 0 v p b k (Has-from_Within s b h.1 p has)))
 
 pub IsSubset-widen : (b : List ℕ) (v t : ℕ) (s : List ℕ) → IsSubset b t s → IsSubset (b ++ v ∷ []) t s
 IsSubset-widen b v t s h = (h.0, Within-from_Has s (b ++ v ∷ []) (λ p has. Has-push b v p (Has-from_Within s b h.1 p has)))
@@ -49,9 +38,9 @@ subset_cases b v t P k below some without with_last s h =
     let all : (p : ℕ) → Has s p → Has (b ++ v ∷ []) p = Has-from_Within s (b ++ v ∷ []) h.1 in
     let limit : Ascends 0 (suc v) (b ++ v ∷ []) = Ascends-push 0 v (suc v) b (omega arith) (omega arith) k in
     top_cases 0 v (λ r. length r ≡ t → ((p : ℕ) → Has r p → Has (b ++ v ∷ []) p) → P r)
-    (λ r low count points. without r ((Ascends-widen 0 v 99 r (omega arith) low, count), Within-drop_last b v r low points))
+    (λ r low count points. without r ((Ascends-wider 0 0 v 99 r (omega arith) (omega arith) low, count), Within-drop_last b v r low points))
     (λ r low count points.
-    with_last r ((Ascends-widen 0 v 99 r (omega arith) low, omega (arith, count, length_push r v)), Within-drop_last b v r low (λ p has. points p (Has-push r v p has))))
+    with_last r ((Ascends-wider 0 0 v 99 r (omega arith) (omega arith) low, omega (arith, count, length_push r v)), Within-drop_last b v r low (λ p has. points p (Has-push r v p has))))
     s (Ascends-subset (suc v) t (b ++ v ∷ []) s limit h) h.0.1 all
 
 count_with : (v : ℕ) (b : List ℕ) → suc v ≤ 99 → Ascends 0 v b → ((t : ℕ) (s : List ℕ) → IsSubset b t s → t ≤ length b)
@@ -135,3 +124,13 @@ IsLastOf-from_place b n v k some within is = record {
   others = subst (λ p. Ascends 0 p (take (n - 1) b)) (sym is) (Ascends-before 0 99 b (n - 1) k (omega arith));
   below = omega (arith, is, Ascends-get_or_below 0 99 b (n - 1) k (omega arith));
 }
+
+-- the sets of a block with one more point, by whether they have it
+pub IsSubset-cases : (b : List ℕ) (v t : ℕ) (s : List ℕ) → Ascends 0 v b → v < 99 → 0 < t
+    → IsSubset (b ++ v ∷ []) t s ↔ (IsSubset b t s ⊎ ((r : List ℕ) × IsSubset b (t - 1) r × (s ≡ r ++ v ∷ [])))
+IsSubset-cases b v t s k below some = (
+  λ h. subset_cases b v t (λ z. IsSubset b t z ⊎ ((r : List ℕ) × IsSubset b (t - 1) r × (z ≡ r ++ v ∷ []))) k below some
+      (λ z inside. inl inside) (λ z inside. inr (z, inside, refl)) s h,
+  λ h. ⊎_elim (λ inside. IsSubset-widen b v t s inside)
+      (λ (r, inside, is). subst (IsSubset (b ++ v ∷ []) t) (sym is) (IsSubset-push b v t r k below some inside)) h,
+)

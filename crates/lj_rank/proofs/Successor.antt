@@ -4,11 +4,9 @@ use Rattle.std.proofs.lemmas.Bool.{cases_lt}
 use Rattle.std.proofs.lemmas.List.{length_push, drop_all}
 use Rattle.lj_base.specs.Blocks.{Ascends, IsBlock}
 use Rattle.lj_base.specs.Colex.{choose}
-use Rattle.lj_base.proofs.Lists.{Ascends-append}
+use Rattle.lj_base.proofs.Ascending.{Ascends-append, Ascends-drop, Ascends-get_or_below, Ascends-push, Ascends-wider}
 use Rattle.lj_rank.specs.Ranks.{rank_from, rank_of, IsFirstRun}
-use Rattle.lj_rank.proofs.Ascending.{Ascends-push, Ascends-widen}
-use Rattle.lj_rank.proofs.Places.{Ascends-get_or_below, Ascends-drop}
-use Rattle.lj_rank.proofs.Counting.{choose-all, rank_from-append, rank-push, rank-below}
+use Rattle.lj_rank.proofs.Counting.{rank_from-append, rank-push, rank-below}
 
 -- points that follow each other from a on, at the places from j on
 rank-run : (j a m : ℕ) (s : List ℕ) → m ≤ length s → ((i : ℕ) → i < m → get_or s i 0 ≡ a + i)
@@ -52,21 +50,21 @@ rank-last v s m ascends h top =
     let left = ap (λ n. choose n m) top ∙ ap (choose v) whole in
     omega (arith, rank-by_run s m h, none, left)
 
-lowest-rank : (n : ℕ) (low : List ℕ) → IsBlock n n low → rank_of low ≡ 0
-lowest-rank n low h =
+lowest-rank : (n : ℕ) (low : List ℕ) → choose n n ≡ 1 → IsBlock n n low → rank_of low ≡ 0
+lowest-rank n low all h =
     let count = ap (choose n) h.1 in
-    omega (arith, rank-below n low h.0, choose-all n, count)
+    omega (arith, rank-below n low h.0, all, count)
 
-pub rank-successor : (s : List ℕ) (m : ℕ) (low : List ℕ) → IsFirstRun s m → IsBlock (m - 1) (m - 1) low
+pub rank-successor : (s : List ℕ) (m : ℕ) (low : List ℕ) → choose (m - 1) (m - 1) ≡ 1 → IsFirstRun s m → IsBlock (m - 1) (m - 1) low
     → rank_of ((low ++ (get_or s (m - 1) 0 + 1) ∷ []) ++ drop m s) ≡ rank_of s + 1
-rank-successor s m low h lowest =
+rank-successor s m low all h lowest =
     let raised = get_or s (m - 1) 0 + 1 in
     let some = h.some in
     let places : suc (length low) ≡ m = omega (arith, lowest.1, some) in
     let count = ap (choose raised) places in
     let long : 1 + length (low ++ raised ∷ []) ≡ 1 + m = omega (arith, length_push low raised, places) in
     let back = ap (λ n. rank_from n (drop m s)) long in
-    omega (arith, rank_from-append 1 (low ++ raised ∷ []) (drop m s), rank-push low raised, lowest-rank (m - 1) low lowest, count, back, rank-by_run s m h)
+    omega (arith, rank_from-append 1 (low ++ raised ∷ []) (drop m s), rank-push low raised, lowest-rank (m - 1) low all lowest, count, back, rank-by_run s m h)
 
 pub IsBlock-successor : (v : ℕ) (s : List ℕ) (m : ℕ) (low : List ℕ) → Ascends 0 v s → IsFirstRun s m → IsBlock (m - 1) (m - 1) low → get_or s (m - 1) 0 + 1 < v
     → IsBlock v (length s) ((low ++ (get_or s (m - 1) 0 + 1) ∷ []) ++ drop m s)
@@ -74,7 +72,7 @@ IsBlock-successor v s m low ascends h lowest below =
     let raised = get_or s (m - 1) 0 + 1 in
     let some = h.some in
     let within = h.within in
-    let low_below = Ascends-widen 0 (m - 1) raised low (omega (arith, h.run (m - 1) (omega (arith, some)))) lowest.0 in
+    let low_below = Ascends-wider 0 0 (m - 1) raised low (omega arith) (omega (arith, h.run (m - 1) (omega (arith, some)))) lowest.0 in
     let front = Ascends-push 0 raised (raised + 1) low (omega arith) (omega arith) low_below in
     let back = Ascends-drop 0 v (raised + 1) s m ascends (λ inside. omega (arith, h.gap inside)) in (
       Ascends-append 0 (raised + 1) v (low ++ raised ∷ []) (drop m s) (omega arith) (omega arith) front back,

@@ -1,7 +1,7 @@
 -- The rank of a set: how many sets of as many points stand before it in colexicographic order.
-use Rattle.std.specs.Prelude.{◌≡◌, ◌≤◌, ◌<◌, ℕ, suc, ◌+◌, ◌-◌, List, [], ◌∷◌, length, slice_index}
+use Rattle.std.specs.Prelude.{◌≡◌, ◌≤◌, ◌<◌, ℕ, suc, ◌+◌, ◌-◌, Some, List, [], ◌∷◌, ◌++◌, length, slice_get, slice_index}
 use Rattle.lj_base.specs.Blocks.{IsBlock, Within}
-use Rattle.lj_base.specs.Colex.{choose}
+use Rattle.lj_base.specs.Colex.{choose, sets}
 
 -- the point at place i, from 1, adds the number of sets of i points below it
 abbrev pub rank_from : ℕ → List ℕ → ℕ
@@ -10,6 +10,13 @@ rank_from i (point ∷ points) = choose point i + rank_from (suc i) points
 
 abbrev pub rank_of : List ℕ → ℕ
 rank_of s = rank_from 1 s
+
+-- what ranks are: each set stands at its rank in the list of all sets of as many points, the ranks are below the number
+-- of these sets, and a last point p adds the number of sets of as many points below p
+pub record RankLaws : Type 0 where
+  pub place : (v k : ℕ) (s : List ℕ) → IsBlock v k s → slice_get (sets v k) (rank_of s) ≡ Some s
+  pub below : (v k : ℕ) (s : List ℕ) → IsBlock v k s → rank_of s < choose v k
+  pub push : (s : List ℕ) (p : ℕ) → rank_of (s ++ p ∷ []) ≡ rank_of s + choose p (suc (length s))
 
 -- s is a set of t points of the block
 abbrev pub IsSubset : List ℕ → ℕ → List ℕ → Type 0

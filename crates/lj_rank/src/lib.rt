@@ -5,6 +5,6 @@ mod laws;
 mod ranks;
 mod sets;
 
-pub use laws::{order_law, sets_law};
+pub use laws::{order_law, rank_law, sets_law, subset_law};
 pub use ranks::{next, rank, seek, unrank};
 pub use sets::TSet;

@@ -5,13 +5,14 @@ ghost use Rattle.lj_base.specs.Colex.{choose, sets};
 ghost use Rattle.lj_rank.specs.Ranks.{IsFirstFrom, IsFirstRun, IsSubset, rank_of};
 
 use crate::sets::TSet;
-use lj_base::{Block, binom};
+use lj_base::{Block, binom, choose_law};
 
 /// How many sets of as many points stand before this one. Cost: one binomial for each point.
 pub fn rank(set: &TSet) -> u64
     ensures sum { result ≡ rank_of set.now }
     ensures place { (v : ℕ) → Ascends 0 v set.now → slice_get (sets v (length set.now)) result ≡ Some set.now }
 {
+    choose_law();
     let mut sum = 0;
     for i in 0..set.len() {
         sum += binom(set.at(i) as u64, i + 1);
@@ -53,6 +54,7 @@ pub fn next(v: u64, set: &mut TSet) -> bool
     if set.len() == 0 {
         return false;
     }
+    choose_law();
     let run = first_run(set);
     let raised = set.at(run - 1) + 1;
     if raised as u64 == v {

@@ -29,7 +29,7 @@ impl TSet {
         }
     }
 
-    /// Adds a point behind those that are there.
+    /// Adds a point after the others, which are all below it.
     pub fn push(&mut self, p: u8)
         requires in_range { p < 99 }
         requires greatest { AllBelow p self.old }

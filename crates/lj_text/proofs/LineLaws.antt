@@ -1,11 +1,9 @@
 -- Laws of the lines of a text: where they stand, and that written lines read back.
-use Rattle.std.proofs.Common.{◌≡◌, ℕ, suc, ◌+◌, ◌-◌, ◌<◌, ◌≤◌, true, false, eqb, List, [], ◌∷◌, ◌++◌, length, take, refl, sym, ap, ◌∙◌, subst, arith, ⊎_elim, ◌≢◌, map, append_assoc, length-append, ap₂, ne_eqb, append-nil, decimal, ◌^◌}
-use Rattle.std.proofs.lemmas.Bool.{and_left, cases_Bool}
+use Rattle.std.proofs.Common.{◌≡◌, ℕ, suc, ◌+◌, ◌-◌, ◌≤◌, true, false, eqb, List, [], ◌∷◌, ◌++◌, length, take, refl, sym, ap, ◌∙◌, subst, arith, ⊎_elim, ◌≢◌, map, append_assoc, length-append, ap₂, ne_eqb}
+use Rattle.std.proofs.lemmas.Bool.{cases_Bool}
 use Rattle.std.proofs.lemmas.List.{drop_at, take_at}
 use Rattle.std.specs.List.{AllByRecursion, list_all}
 use Rattle.lj_text.specs.Lines.{IsLineOf, IsPlain, cut_lines, is_blank, line_text, lines_from, onto, placed_from, text_lines, with_feeds, without_return}
-use Rattle.lj_text.specs.Tokens.{IsWord, join_by_space}
-use Rattle.lj_text.proofs.Spelling.{IsWord-decimal, high-decimal}
 
 -- the lines, from a place on, with a byte behind each but the last, end by n
 abbrev EndBy : ℕ → List (List ℕ) → ℕ → Type 0
@@ -128,44 +126,3 @@ text_lines-first line rest h =
     let same : without_return line ≡ line = h.2 in
     let count : 0 + length line ≡ length line = omega arith in
     ap (lines_from 1 0) (cut_lines-feed line rest h.1) ∙ rw (same, not_blank, count) refl
-
--- ---- numbers that are joined by spaces are a plain line
-
-kept_without : (line : List ℕ) → AllByRecursion (λ byte. byte ≢ 13) line → without_return line ≡ line
-kept_without [] h = refl
-kept_without (b ∷ []) h = let other : eqb b 13 ≡ false = ne_eqb _ _ h.0 in rw other refl
-kept_without (b ∷ (c ∷ cs)) h = ap (λ l. b ∷ l) (kept_without (c ∷ cs) h.1)
-
-module _ (P : ℕ → Type 0) where
-  All-append : (xs ys : List ℕ) → AllByRecursion P xs → AllByRecursion P ys → AllByRecursion P (xs ++ ys)
-  All-append [] ys h k = k
-  All-append (x ∷ xs) ys h k = (h.0, All-append xs ys h.1 k)
-
-  All-join : (words : List (List ℕ)) → P 32 → AllByRecursion (AllByRecursion P) words → AllByRecursion P (join_by_space words)
-  All-join [] space h = tt
-  All-join (w ∷ []) space h = h.0
-  All-join (w ∷ (v ∷ words)) space h = All-append w (32 ∷ join_by_space (v ∷ words)) h.0 (space, All-join (v ∷ words) space h.1)
-
-not_blank-append : (word rest : List ℕ) → IsWord word → list_all is_blank (word ++ rest) ≡ false
-not_blank-append [] rest h = absurd (omega (arith, h.0))
-not_blank-append (b ∷ bs) rest h = and_left _ _ h.1.0
-
-not_blank-join : (word : List ℕ) (words : List (List ℕ)) → IsWord word → list_all is_blank (join_by_space (word ∷ words)) ≡ false
-not_blank-join word [] h = subst (λ l. list_all is_blank l ≡ false) (append-nil word) (not_blank-append word [] h)
-not_blank-join word (v ∷ words) h = not_blank-append word (32 ∷ join_by_space (v ∷ words)) h
-
--- a fact of each digit holds of each byte of the numbers
-bytes-numbers : (P : ℕ → Type 0) → ((byte : ℕ) → 48 ≤ byte → P byte) → (ns : List ℕ) → AllByRecursion (λ n. n < 2 ^ 64) ns → AllByRecursion (AllByRecursion P) (map decimal ns)
-bytes-numbers P digit [] h = tt
-bytes-numbers P digit (n ∷ ns) h = (high-decimal P digit n h.0, bytes-numbers P digit ns h.1)
-
-pub IsPlain-numbers : (ns : List ℕ) → 1 ≤ length ns → AllByRecursion (λ n. n < 2 ^ 64) ns → IsPlain (join_by_space (map decimal ns))
-IsPlain-numbers [] some h = absurd (omega arith)
-IsPlain-numbers (n ∷ ns) some h =
-    let words = map decimal (n ∷ ns) in
-    let no_feed : (byte : ℕ) → 48 ≤ byte → byte ≢ 10 = λ byte k e. omega (arith, e) in
-    let no_return : (byte : ℕ) → 48 ≤ byte → byte ≢ 13 = λ byte k e. omega (arith, e) in (
-      not_blank-join (decimal n) (map decimal ns) (IsWord-decimal n h.0),
-      All-join (λ byte. byte ≢ 10) words (λ e. omega (arith, e)) (bytes-numbers _ no_feed (n ∷ ns) h),
-      kept_without (join_by_space words) (All-join (λ byte. byte ≢ 13) words (λ e. omega (arith, e)) (bytes-numbers _ no_return (n ∷ ns) h)),
-    )

@@ -8,9 +8,22 @@ use Rattle.lj_text.specs.Lines.{IsLineOf, StandFrom, after_line, cut_lines, is_b
 use Rattle.lj_text.specs.declared.lines.Line.{Line}
 use Rattle.lj_text.proofs.LineLaws.{IsLineOf-text_lines, length-without_return}
 
-StandFrom-earlier : (bytes : List ℕ) (place other : ℕ) (lines : List Line) → other ≤ place → StandFrom bytes place lines → StandFrom bytes other lines
+pub StandFrom-earlier : (bytes : List ℕ) (place other : ℕ) (lines : List Line) → other ≤ place → StandFrom bytes place lines → StandFrom bytes other lines
 StandFrom-earlier bytes place other [] before h = tt
 StandFrom-earlier bytes place other (line ∷ lines) before h = (omega (arith, h.0), h.1, h.2)
+
+stop_before : (bytes : List ℕ) (line : Line) → IsLineOf bytes line → line.stop ≤ after_line bytes line
+stop_before bytes line h = omega (arith, h.0, h.1)
+
+pub StandFrom-back : (bytes : List ℕ) (place : ℕ) (some others : List Line) → StandFrom bytes place (some ++ others) → StandFrom bytes place others
+StandFrom-back bytes place [] others h = h
+StandFrom-back bytes place (line ∷ some) others h =
+    StandFrom-earlier bytes (after_line bytes line) place others (omega (arith, h.0, h.1.0, stop_before bytes line h.1))
+    (StandFrom-back bytes (after_line bytes line) some others h.2)
+
+pub IsLineOf-StandFrom : (bytes : List ℕ) (place : ℕ) (lines : List Line) → StandFrom bytes place lines → AllByRecursion (IsLineOf bytes) lines
+IsLineOf-StandFrom bytes place [] h = tt
+IsLineOf-StandFrom bytes place (line ∷ lines) h = (h.1, IsLineOf-StandFrom bytes (after_line bytes line) lines h.2)
 
 -- behind each line of these, from a place on, but the last, stands an LF
 abbrev HasFeeds : List ℕ → ℕ → List (List ℕ) → Type 0

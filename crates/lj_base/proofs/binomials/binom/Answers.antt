@@ -1,5 +1,5 @@
 use Rattle.std.proofs.Common.{arith}
-use Rattle.lj_base.proofs.Triangle.{table_has, table_small}
+use Rattle.lj_base.proofs.BinomialTable.{table_has, table_small}
 use Rattle.lj_base.proofs.binomials.binom.Goals as goal
 
 pub returns-clause-value : goal.returns-clause-value

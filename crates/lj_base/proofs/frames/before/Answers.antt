@@ -1,4 +1,4 @@
-use Rattle.lj_base.proofs.Counting.{before_low_is, before_high_is}
+use Rattle.lj_base.proofs.CellCounts.{before_low_is, before_high_is}
 use Rattle.lj_base.proofs.frames.before.Goals as goal
 
 pub returns-then-k-t-clause-before : goal.returns-then-k-t-clause-before

@@ -1,4 +1,4 @@
-use Rattle.lj_base.proofs.Counting.{layers_low, layers_high}
+use Rattle.lj_base.proofs.CellCounts.{layers_low, layers_high}
 use Rattle.lj_base.proofs.frames.layers.Goals as goal
 
 pub returns-then-v-t-clause-layers : goal.returns-then-v-t-clause-layers

@@ -1,5 +1,5 @@
 use Rattle.std.proofs.Common.{arith, ◌∙◌, ap, ◌+◌, ◌*◌, ◌-◌}
-use Rattle.lj_base.proofs.Counting.{up_to_above, up_to_le}
+use Rattle.lj_base.proofs.CellCounts.{up_to_above, up_to_le}
 use Rattle.lj_base.specs.Frames.{up_to_v}
 use Rattle.lj_base.proofs.frames.up_to.Goals as goal
 

@@ -1,4 +1,4 @@
-use Rattle.lj_base.proofs.Lists.{length-sets}
+use Rattle.lj_base.proofs.Ascending.{length-sets}
 use Rattle.lj_rank.proofs.Listing.{members-sets}
 use Rattle.lj_rank.proofs.laws.sets_law.Goals as goal
 

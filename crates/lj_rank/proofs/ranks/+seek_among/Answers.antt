@@ -1,8 +1,7 @@
 use Rattle.std.proofs.Common.{◌-◌, ◌++◌, take, [], ◌∷◌, arith, sym, subst}
 use Rattle.std.proofs.lemmas.List.{length-take-le}
-use Rattle.lj_base.proofs.Lists.{AllBelow-from_Ascends}
+use Rattle.lj_base.proofs.Ascending.{AllBelow-from_Ascends, Ascends-take}
 use Rattle.lj_rank.specs.Ranks.{IsFirstFrom}
-use Rattle.lj_rank.proofs.Places.{Ascends-take}
 use Rattle.lj_rank.proofs.Subsets.{NoneFrom, NoneFrom-without, NoneFrom-with, IsFirstFrom-without, IsFirstFrom-with, subset-count, Ascends-subset, IsLastOf-from_place}
 use Rattle.lj_rank.proofs.ranks.+seek_among.Goals as goal
 use Rattle.lj_rank.proofs.ranks.+seek_among.Goals.{then-least-before+in_default, else-least-before}

@@ -2,16 +2,15 @@ use Rattle.std.proofs.Common.{◌≡◌, ◌<◌, ◌+◌, ◌-◌, arith, ap, s
 use Rattle.std.proofs.lemmas.List.{length_push}
 use Rattle.lj_base.specs.Blocks.{IsBlock}
 use Rattle.lj_base.specs.Colex.{choose}
-use Rattle.lj_base.proofs.Lists.{AllBelow-from_Ascends}
+use Rattle.lj_base.proofs.Ascending.{AllBelow-from_Ascends, Ascends-push}
 use Rattle.lj_rank.specs.Ranks.{rank_of}
-use Rattle.lj_rank.proofs.Ascending.{Ascends-push}
-use Rattle.lj_rank.proofs.Counting.{choose-some, rank-push}
+use Rattle.lj_rank.proofs.Counting.{choose-point, rank-push}
 use Rattle.lj_rank.proofs.Listing.{sets-place}
 use Rattle.lj_rank.proofs.ranks.+unrank.Goals as goal
 
 pub loop-greatest-init : goal.loop-greatest-init
 loop-greatest-init t c =
-    let some : 0 < c.args.v = choose-some c.args.v c.args.t c.args.r (omega arith) c.requires.in_range in
+    let some : 0 < c.args.v = choose-point c.args.v c.args.t c.args.r (omega arith) c.requires.in_range in
     let all : c.args.v - 1 + 1 ≡ c.args.v = omega arith in
     record { below = omega arith; reaches = subst (λ n. c.args.r < choose n c.args.t) (sym all) c.requires.in_range }
 

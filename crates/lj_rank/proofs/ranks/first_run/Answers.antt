@@ -1,5 +1,5 @@
 use Rattle.std.proofs.Common.{◌-◌, arith}
-use Rattle.lj_rank.proofs.Places.{Ascends-get_or_lt}
+use Rattle.lj_base.proofs.Ascending.{Ascends-get_or_lt}
 use Rattle.lj_rank.proofs.ranks.first_run.Goals as goal
 
 pub returns-else-at : goal.returns-else-at

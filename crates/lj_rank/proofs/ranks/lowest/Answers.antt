@@ -1,8 +1,7 @@
 use Rattle.std.proofs.Common.{◌+◌, arith, subst, sym}
 use Rattle.std.proofs.lemmas.List.{length_push}
 use Rattle.lj_base.specs.Blocks.{IsBlock}
-use Rattle.lj_base.proofs.Lists.{AllBelow-from_Ascends}
-use Rattle.lj_rank.proofs.Ascending.{Ascends-push}
+use Rattle.lj_base.proofs.Ascending.{AllBelow-from_Ascends, Ascends-push}
 use Rattle.lj_rank.proofs.ranks.lowest.Goals as goal
 
 pub push-requires-clause-greatest : goal.push-requires-clause-greatest

@@ -4,7 +4,7 @@ use Rattle.lj_base.specs.Blocks.{IsBlock}
 use Rattle.lj_base.specs.Colex.{choose}
 use Rattle.lj_rank.specs.Ranks.{rank_of}
 use Rattle.lj_rank.proofs.Counting.{rank-below}
-use Rattle.lj_rank.proofs.Places.{Ascends-get_or_below}
+use Rattle.lj_base.proofs.Ascending.{Ascends-get_or_below}
 use Rattle.lj_rank.proofs.Successor.{rank-last, rank-successor, IsBlock-successor}
 use Rattle.lj_rank.proofs.ranks.next.Goals as goal
 
@@ -30,7 +30,10 @@ block c =
     (IsBlock-successor c.args.v s c.first_run-run.result c.lowest-front.result c.requires.below run c.lowest-front.ensures (omega (arith, point)))
 
 rank : (c : goal.After-with_front) → rank_of c.with_front.result ≡ rank_of c.args.set.now + 1
-rank c = ap rank_of (successor-is c) ∙ rank-successor c.args.set.now c.first_run-run.result c.lowest-front.result c.first_run-run.ensures c.lowest-front.ensures
+rank c =
+    let one = c.choose_law.ensures.all (c.first_run-run.result - 1) in
+    ap rank_of (successor-is c)
+    ∙ rank-successor c.args.set.now c.first_run-run.result c.lowest-front.result one c.first_run-run.ensures c.lowest-front.ensures
 
 pub returns-clause-last : goal.returns-clause-last
 returns-clause-last c =

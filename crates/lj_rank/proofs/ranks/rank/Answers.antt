@@ -2,9 +2,9 @@ use Rattle.std.proofs.Common.{◌≡◌, ◌+◌, arith, ap, ◌∙◌, sym, ref
 use Rattle.std.proofs.lemmas.List.{take_all, length-take-le}
 use Rattle.lj_base.specs.Colex.{choose}
 use Rattle.lj_rank.specs.Ranks.{rank_of}
-use Rattle.lj_rank.proofs.Counting.{rank-fits, rank-take_more}
+use Rattle.lj_rank.proofs.Counting.{rank-below, rank-take_more}
 use Rattle.lj_rank.proofs.Listing.{sets-place}
-use Rattle.lj_rank.proofs.Places.{Ascends-take}
+use Rattle.lj_base.proofs.Ascending.{Ascends-take}
 use Rattle.lj_rank.proofs.ranks.rank.Goals as goal
 
 pub overflow_add-sum : goal.overflow_add-sum
@@ -13,8 +13,9 @@ overflow_add-sum c =
     let i = c.loop-i.i in
     let count = ap (λ p. choose p (i + 1)) c.at.ensures in
     let long = length-take-le (i + 1) s (omega arith) in
-    let fits = rank-fits (take (i + 1) s) (Ascends-take 0 99 s (i + 1) c.len-i-end.ensures.ascends) (omega arith) in
-    omega (arith, rank-take_more s i (omega arith))
+    let below = rank-below 99 (take (i + 1) s) (Ascends-take 0 99 s (i + 1) c.len-i-end.ensures.ascends) in
+    let fits = c.choose_law.ensures.small 99 (length (take (i + 1) s)) (omega arith) (omega arith) in
+    omega (arith, rank-take_more s i (omega arith), below, fits)
 
 pub loop-i-preserved : goal.loop-i-preserved
 loop-i-preserved c =

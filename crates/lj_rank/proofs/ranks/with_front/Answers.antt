@@ -1,7 +1,8 @@
 use Rattle.std.proofs.Common.{◌≡◌, ◌<◌, ◌+◌, ◌-◌, ◌++◌, ◌∷◌, [], arith, ap, ◌∙◌, sym, subst, length, drop, take, get_or}
 use Rattle.std.proofs.lemmas.List.{append_assoc, get_or-drop, length-drop}
 use Rattle.lj_base.specs.Blocks.{AllBelow}
-use Rattle.lj_rank.proofs.Places.{AllBelow-before, Ascends-get_or_below, take_more-drop}
+use Rattle.lj_base.proofs.Ascending.{AllBelow-before, Ascends-get_or_below}
+use Rattle.lj_base.proofs.Lists.{take_more-drop}
 use Rattle.lj_rank.proofs.ranks.with_front.Goals as goal
 
 pub push-requires-clause-in_range : goal.push-requires-clause-in_range

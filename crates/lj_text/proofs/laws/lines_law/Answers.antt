@@ -1,5 +1,6 @@
 use Rattle.lj_text.proofs.LineOrder.{StandFrom-text_lines}
-use Rattle.lj_text.proofs.LineLaws.{IsLineOf-text_lines, IsPlain-numbers, text_lines-feeds, text_lines-first, text_lines-placed}
+use Rattle.lj_text.proofs.LineLaws.{IsLineOf-text_lines, text_lines-feeds, text_lines-first, text_lines-placed}
+use Rattle.lj_text.proofs.PlainWords.{IsPlain-numbers}
 use Rattle.lj_text.proofs.laws.lines_law.Goals as goal
 
 pub returns : goal.returns

@@ -1,7 +1,7 @@
 use Rattle.std.proofs.Common.{◌∙◌, ap, sym, subst, arith, ◌-◌}
 use Rattle.std.specs.List.{slice_get}
 use Rattle.lj_base.specs.Frames.{InFrame, cells_of, up_to_v}
-use Rattle.lj_base.proofs.Order.{at_index}
+use Rattle.lj_base.proofs.CellOrder.{at_index}
 use Rattle.lj_base.proofs.frames.Frame.cell.Goals as goal
 
 pub returns-clause-within : goal.returns-clause-within

@@ -1,7 +1,7 @@
 use Rattle.std.proofs.Common.{◌<◌, ◌∙◌, ap, sym, subst, arith}
 use Rattle.std.specs.List.{slice_get}
 use Rattle.lj_base.specs.Frames.{Top, cells_of, size_of}
-use Rattle.lj_base.proofs.Order.{at_index, index_below}
+use Rattle.lj_base.proofs.CellOrder.{at_index, index_below}
 use Rattle.lj_base.proofs.frames.Frame.index.Goals as goal
 
 pub returns-clause-index : goal.returns-clause-index

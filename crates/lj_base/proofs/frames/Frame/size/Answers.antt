@@ -1,6 +1,6 @@
 use Rattle.std.proofs.Common.{◌∙◌, sym, ap}
 use Rattle.lj_base.specs.Frames.{Top}
-use Rattle.lj_base.proofs.Order.{size_is}
+use Rattle.lj_base.proofs.CellOrder.{size_is}
 use Rattle.lj_base.proofs.frames.Frame.size.Goals as goal
 
 pub returns-clause-cells : goal.returns-clause-cells

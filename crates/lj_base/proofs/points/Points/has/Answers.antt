@@ -1,6 +1,6 @@
 use Rattle.std.proofs.Common.{◌∙◌, sym, eqb, ap}
 use Rattle.std.specs.List.{list_any}
-use Rattle.lj_base.proofs.Places.{Has-from_any, any-from_Has}
+use Rattle.lj_base.proofs.PointArrays.{Has-from_any, any-from_Has}
 use Rattle.lj_base.proofs.points.Points.has.Goals as goal
 
 pub returns : goal.returns
