@@ -1,7 +1,7 @@
--- A table whose rows follow each other as those of the triangle has the binomials.
+-- A table whose rows follow each other as those of the triangle has the binomials, and they are small where it is.
 use Rattle.std.proofs.Common.{◌≡◌, ℕ, zero, suc, ◌+◌, ◌<◌, ◌≤◌, true, List, [], ◌∷◌, length, get_or, refl, ap, ◌∙◌}
 use Rattle.std.proofs.Common.{subst, arith, add_comm}
-use Rattle.std.proofs.Common.{◌^◌, ltb, lit<}
+use Rattle.std.proofs.Common.{ltb}
 use Rattle.std.proofs.lemmas.Bool.{and_parts, eqb-true, false≢true, ltb-true}
 use Rattle.std.specs.List.{list_all}
 use Rattle.lj_base.specs.Colex.{choose}
@@ -36,33 +36,45 @@ get_or-choices n j (suc m) (suc r) h =
     let e : suc j + r ≡ j + suc r = omega arith in
     get_or-choices n (suc j) m r (omega arith) ∙ ap (choose n) e
 
-rows_have : (n : ℕ) (rows : List (List ℕ)) (i r : ℕ) → are_rows_from (choices n 0 9) rows ≡ true → i < length rows → r < 9
+rows_have : (n : ℕ) (rows : List (List ℕ)) (i r : ℕ) → are_rows_from (choices n 0 9) rows ≡ true → i < length rows
+    → r < 9
     → get_or (get_or rows i []) r 0 ≡ choose (n + i) r
 rows_have n [] i r h below small = absurd (omega arith)
 rows_have n (row ∷ rows) zero r h below small =
     let parts = and_parts (same_numbers row (choices n 0 9)) (are_rows_from (next_row (choices n 0 9)) rows) h in
     let e : n ≡ n + 0 = omega arith in
     let from_zero : 0 + r ≡ r = omega arith in
-    ap (λ xs. get_or xs r 0) (same_from_test row (choices n 0 9) parts.0) ∙ get_or-choices n 0 9 r small ∙ ap (choose n) from_zero ∙ ap (λ m. choose m r) e
+    ap (λ xs. get_or xs r 0) (same_from_test row (choices n 0 9) parts.0) ∙ get_or-choices n 0 9 r small
+    ∙ ap (choose n) from_zero ∙ ap (λ m. choose m r) e
 rows_have n (row ∷ rows) (suc i) r h below small =
     let parts = and_parts (same_numbers row (choices n 0 9)) (are_rows_from (next_row (choices n 0 9)) rows) h in
-    let rest : are_rows_from (choices (suc n) 0 9) rows ≡ true = subst (λ xs. are_rows_from xs rows ≡ true) (next_row-choices n 8) parts.1 in
+    let rest : are_rows_from (choices (suc n) 0 9) rows ≡ true =
+    subst (λ xs. are_rows_from xs rows ≡ true) (next_row-choices n 8) parts.1 in
     let e : suc n + i ≡ n + suc i = omega arith in
     rows_have (suc n) rows i r rest (omega arith) small ∙ ap (λ m. choose m r) e
 
 -- the entry of a table that begins with the first row
-pub table_has : (rows : List (List ℕ)) (n r : ℕ) → are_rows_from first_row rows ≡ true → n < length rows → r ≤ 8 → get_or (get_or rows n []) r 0 ≡ choose n r
+pub table_has : (rows : List (List ℕ)) (n r : ℕ) → are_rows_from first_row rows ≡ true → n < length rows → r ≤ 8
+    → get_or (get_or rows n []) r 0 ≡ choose n r
 table_has rows n r h below small =
     let from_zero : 0 + n ≡ n = omega arith in
     rows_have 0 rows n r h below (omega arith) ∙ ap (λ m. choose m r) from_zero
 
-all_below : (xs : List ℕ) (r : ℕ) → list_all (λ x. ltb x (2 ^ 38)) xs ≡ true → get_or xs r 0 < 2 ^ 38
-all_below [] r h = lit< tt
-all_below (x ∷ xs) zero h = ltb-true x (2 ^ 38) (and_parts (ltb x (2 ^ 38)) (list_all (λ y. ltb y (2 ^ 38)) xs) h).0
-all_below (x ∷ xs) (suc r) h = all_below xs r (and_parts (ltb x (2 ^ 38)) (list_all (λ y. ltb y (2 ^ 38)) xs) h).1
+pub all_below : (limit : ℕ) (xs : List ℕ) (r : ℕ) → 0 < limit → list_all (λ x. ltb x limit) xs ≡ true
+    → get_or xs r 0 < limit
+all_below limit [] r some h = some
+all_below limit (x ∷ xs) zero some h =
+    ltb-true x limit (and_parts (ltb x limit) (list_all (λ y. ltb y limit) xs) h).0
+all_below limit (x ∷ xs) (suc r) some h =
+    all_below limit xs r some (and_parts (ltb x limit) (list_all (λ y. ltb y limit) xs) h).1
 
--- an entry of a table of small numbers
-pub table_small : (rows : List (List ℕ)) (n r : ℕ) → list_all (list_all (λ x. ltb x (2 ^ 38))) rows ≡ true → get_or (get_or rows n []) r 0 < 2 ^ 38
-table_small [] n r h = all_below [] r refl
-table_small (row ∷ rows) zero r h = all_below row r (and_parts (list_all (λ x. ltb x (2 ^ 38)) row) (list_all (list_all (λ x. ltb x (2 ^ 38))) rows) h).0
-table_small (row ∷ rows) (suc n) r h = table_small rows n r (and_parts (list_all (λ x. ltb x (2 ^ 38)) row) (list_all (list_all (λ x. ltb x (2 ^ 38))) rows) h).1
+-- an entry of a table of numbers below a limit
+pub table_small : (limit : ℕ) (rows : List (List ℕ)) (n r : ℕ) → 0 < limit
+    → list_all (list_all (λ x. ltb x limit)) rows ≡ true → get_or (get_or rows n []) r 0 < limit
+table_small limit [] n r some h = all_below limit [] r some refl
+table_small limit (row ∷ rows) zero r some h =
+    all_below limit row r some
+    (and_parts (list_all (λ x. ltb x limit) row) (list_all (list_all (λ x. ltb x limit)) rows) h).0
+table_small limit (row ∷ rows) (suc n) r some h =
+    table_small limit rows n r some
+    (and_parts (list_all (λ x. ltb x limit) row) (list_all (list_all (λ x. ltb x limit)) rows) h).1

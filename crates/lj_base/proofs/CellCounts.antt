@@ -29,7 +29,8 @@ before_more t (suc m) =
     let e : t + 1 + suc m ≡ suc (t + 1 + m) = omega arith in
     let least : min (t + 1 + m) t ≡ t = omega arith in
     let ih : before_k t (t + 1 + m) ≡ triangle (t + 1) + m * (t + 1) = before_more t m in
-    let step : before_k t (suc (t + 1 + m)) ≡ before_k t (t + 1 + m) + (t + 1) = ap (λ n. before_k t (t + 1 + m) + (n + 1)) least in
+    let step : before_k t (suc (t + 1 + m)) ≡ before_k t (t + 1 + m) + (t + 1) =
+    ap (λ n. before_k t (t + 1 + m) + (n + 1)) least in
     ap (before_k t) e ∙ step ∙ omega (arith, ih)
 
 pub before_low_is : (t k : ℕ) → k ≤ t + 1 → k * (k + 1) / 2 ≡ before_k t k
@@ -45,7 +46,8 @@ before_high_is t k h =
     let more : before_k t (t + 1 + m) ≡ triangle (t + 1) + m * (t + 1) = before_more t m in
     let double : 2 * triangle (t + 1) ≡ (t + 1) * (t + 1 + 1) = double_triangle (t + 1) in
     let half : (t + 1) * (t + 2) / 2 ≡ triangle (t + 1) = omega (arith, double) in
-    let joined : (t + 1) * (t + 2) / 2 + m * (t + 1) ≡ before_k t (t + 1 + m) = ap (λ n. n + m * (t + 1)) half ∙ sym more in
+    let joined : (t + 1) * (t + 2) / 2 + m * (t + 1) ≡ before_k t (t + 1 + m) =
+    ap (λ n. n + m * (t + 1)) half ∙ sym more in
     joined ∙ ap (before_k t) e
 
 before_le : (t k : ℕ) → t ≤ 8 → before_k t k ≤ k * 9
@@ -69,7 +71,8 @@ up_to_low k t zero h g = refl
 up_to_low k t (suc v) h g =
     let ih : 6 * up_to_v k t v + 6 ≡ (v + 1) * (v + 2) * (v + 3) = up_to_low k t v (omega arith) (omega arith) in
     let least : min (suc v) k ≡ suc v = omega arith in
-    let layer : before_k t (min (suc v) k + 1) ≡ triangle (suc v + 1) = ap (λ n. before_k t (n + 1)) least ∙ before_low t (suc v + 1) (omega arith) in
+    let layer : before_k t (min (suc v) k + 1) ≡ triangle (suc v + 1) =
+    ap (λ n. before_k t (n + 1)) least ∙ before_low t (suc v + 1) (omega arith) in
     let double : 2 * triangle (suc v + 1) ≡ (suc v + 1) * (suc v + 1 + 1) = double_triangle (suc v + 1) in
     let six : 6 * before_k t (min (suc v) k + 1) ≡ 3 * ((suc v + 1) * (suc v + 1 + 1)) = omega (arith, layer, double) in
     omega (arith, ih, six)
@@ -80,10 +83,13 @@ up_to_high k t zero h =
     ap (up_to_v k t) e ∙ omega arith
 up_to_high k t (suc m) h =
     let e : t + suc m ≡ suc (t + m) = omega arith in
-    let ih : up_to_v k t (t + m) ≡ up_to_v k t t + m * triangle (t + 1) + (t + 1) * triangle m = up_to_high k t m (omega arith) in
+    let ih : up_to_v k t (t + m) ≡ up_to_v k t t + m * triangle (t + 1) + (t + 1) * triangle m =
+    up_to_high k t m (omega arith) in
     let least : min (suc (t + m)) k + 1 ≡ t + 1 + suc m = omega arith in
-    let layer : before_k t (min (suc (t + m)) k + 1) ≡ triangle (t + 1) + suc m * (t + 1) = ap (before_k t) least ∙ before_more t (suc m) in
-    let step : up_to_v k t (suc (t + m)) ≡ up_to_v k t (t + m) + (triangle (t + 1) + suc m * (t + 1)) = ap (λ n. up_to_v k t (t + m) + n) layer in
+    let layer : before_k t (min (suc (t + m)) k + 1) ≡ triangle (t + 1) + suc m * (t + 1) =
+    ap (before_k t) least ∙ before_more t (suc m) in
+    let step : up_to_v k t (suc (t + m)) ≡ up_to_v k t (t + m) + (triangle (t + 1) + suc m * (t + 1)) =
+    ap (λ n. up_to_v k t (t + m) + n) layer in
     ap (up_to_v k t) e ∙ step ∙ omega (arith, ih)
 
 up_to_past : (k t m : ℕ) → up_to_v k t (k + m) ≡ up_to_v k t k + m * before_k t (k + 1)
@@ -94,7 +100,8 @@ up_to_past k t (suc m) =
     let e : k + suc m ≡ suc (k + m) = omega arith in
     let ih : up_to_v k t (k + m) ≡ up_to_v k t k + m * before_k t (k + 1) = up_to_past k t m in
     let least : min (suc (k + m)) k ≡ k = omega arith in
-    let step : up_to_v k t (suc (k + m)) ≡ up_to_v k t (k + m) + before_k t (k + 1) = ap (λ n. up_to_v k t (k + m) + before_k t (n + 1)) least in
+    let step : up_to_v k t (suc (k + m)) ≡ up_to_v k t (k + m) + before_k t (k + 1) =
+    ap (λ n. up_to_v k t (k + m) + before_k t (n + 1)) least in
     ap (up_to_v k t) e ∙ step ∙ omega (arith, ih)
 
 pub layers_low : (k t v : ℕ) → v ≤ k → v ≤ t → (v + 1) * (v + 2) * (v + 3) / 6 - 1 ≡ up_to_v k t v
@@ -103,7 +110,8 @@ layers_low k t v h g =
     omega (arith, low)
 
 pub layers_high : (k t v : ℕ) → v ≤ k → t < v
-    → (t + 1) * (t + 2) * (t + 3) / 6 - 1 + (v - t) * ((t + 1) * (t + 2) / 2) + (t + 1) * ((v - t) * (v - t + 1) / 2) ≡ up_to_v k t v
+    → (t + 1) * (t + 2) * (t + 3) / 6 - 1 + (v - t) * ((t + 1) * (t + 2) / 2) + (t + 1) * ((v - t) * (v - t + 1) / 2)
+    ≡ up_to_v k t v
 layers_high k t v h g =
     let m : ℕ = v - t in
     let e : t + m ≡ v = omega arith in

@@ -36,7 +36,8 @@ total_front f a (suc m) =
 length-pieces : {X : Type 0} (f : ℕ → List X) (a n : ℕ) → length (flat_map f (range_with_len a n)) ≡ total f a n
 length-pieces f a zero = refl
 length-pieces f a (suc n) =
-    length-append (f a) (flat_map f (range_with_len (a + 1) n)) ∙ ap (λ m. length (f a) + m) (length-pieces f (a + 1) n) ∙ sym (total_front f a n)
+    length-append (f a) (flat_map f (range_with_len (a + 1) n))
+    ∙ ap (λ m. length (f a) + m) (length-pieces f (a + 1) n) ∙ sym (total_front f a n)
 
 at_piece : {X : Type 0} (f : ℕ → List X) (a n m j : ℕ) → m < n → j < length (f (a + m))
     → slice_get (flat_map f (range_with_len a n)) (total f a m + j) ≡ slice_get (f (a + m)) j
@@ -60,7 +61,8 @@ length-cells_with : (v k s n : ℕ) → length (cells_with v k (range_with_len s
 length-cells_with v k s zero = refl
 length-cells_with v k s (suc n) = let ih = length-cells_with v k (s + 1) n in omega (arith, ih)
 
-get-cells_with : (v k s n j : ℕ) → j < n → slice_get (cells_with v k (range_with_len s n)) j ≡ Some (record { v = v; k = k; t = s + j })
+get-cells_with : (v k s n j : ℕ) → j < n
+    → slice_get (cells_with v k (range_with_len s n)) j ≡ Some (record { v = v; k = k; t = s + j })
 get-cells_with v k s zero j h = absurd (omega arith)
 get-cells_with v k s (suc n) zero h =
     let e : s ≡ s + 0 = omega arith in
@@ -80,7 +82,8 @@ total-row : (t v m : ℕ) → total (row t v) 0 m ≡ before_k t m
 total-row t v zero = refl
 total-row t v (suc m) =
     let e : 0 + m ≡ m = omega arith in
-    let size : length (row t v (0 + m)) ≡ min m t + 1 = length-cells_with v (0 + m) 0 (min (0 + m) t + 1) ∙ ap (λ n. min n t + 1) e in
+    let size : length (row t v (0 + m)) ≡ min m t + 1 =
+    length-cells_with v (0 + m) 0 (min (0 + m) t + 1) ∙ ap (λ n. min n t + 1) e in
     let ih : total (row t v) 0 m ≡ before_k t m = total-row t v m in
     omega (arith, size, ih)
 
@@ -91,7 +94,8 @@ total-layer : (k t m : ℕ) → total (layer k t) 1 m ≡ up_to_v k t m
 total-layer k t zero = refl
 total-layer k t (suc m) =
     let e : 1 + m ≡ suc m = omega arith in
-    let size : length (layer k t (1 + m)) ≡ before_k t (min (suc m) k + 1) = length-layer k t (1 + m) ∙ ap (λ n. before_k t (min n k + 1)) e in
+    let size : length (layer k t (1 + m)) ≡ before_k t (min (suc m) k + 1) =
+    length-layer k t (1 + m) ∙ ap (λ n. before_k t (min n k + 1)) e in
     let ih : total (layer k t) 1 m ≡ up_to_v k t m = total-layer k t m in
     omega (arith, size, ih)
 
@@ -103,7 +107,9 @@ before_up t k zero h = absurd (omega arith)
 before_up t k (suc n) h =
     let ih = before_up t k n in
     ⊎_elim (λ below. let up : before_k t k + (min k t + 1) ≤ before_k t n = ih below in omega (arith, up))
-    (λ above. let e : n ≡ k = omega arith in subst (λ m. before_k t k + (min k t + 1) ≤ before_k t (suc m)) (sym e) (omega arith))
+    (λ above.
+    let e : n ≡ k = omega arith in
+    subst (λ m. before_k t k + (min k t + 1) ≤ before_k t (suc m)) (sym e) (omega arith))
     (cases_lt k n)
 
 -- the cell stands at its index
@@ -120,18 +126,22 @@ at_index f c h =
     let place : index_of f c ≡ total (layer k t) 1 v + inner = omega (arith, rows, layers) in
     let k_in : c.k < min (1 + v) k + 1 = omega (arith, h.cell, h.k) in
     let t_in : c.t < min c.k t + 1 = omega (arith, h.cell, h.t) in
-    let in_row : c.t < length (row t (1 + v) (0 + c.k)) = subst (λ n. c.t < n) (sym (length-cells_with (1 + v) (0 + c.k) 0 (min (0 + c.k) t + 1) ∙ ap (λ n. min n t + 1) here)) t_in in
+    let row_size = length-cells_with (1 + v) (0 + c.k) 0 (min (0 + c.k) t + 1) ∙ ap (λ n. min n t + 1) here in
+    let in_row : c.t < length (row t (1 + v) (0 + c.k)) = subst (λ n. c.t < n) (sym row_size) t_in in
     let up = before_up t c.k (min (1 + v) k + 1) k_in in
-    let in_layer : inner < length (layer k t (1 + v)) = subst (λ n. inner < n) (sym (length-layer k t (1 + v))) (omega (arith, up, rows, t_in)) in
+    let in_layer : inner < length (layer k t (1 + v)) =
+    subst (λ n. inner < n) (sym (length-layer k t (1 + v))) (omega (arith, up, rows, t_in)) in
     let last : 0 + c.t ≡ c.t = omega arith in
     ap (slice_get (cells_of f)) place
     ∙ at_piece (layer k t) 1 f.top.v v inner (omega (arith, h.v, h.cell)) in_layer
     ∙ at_piece (row t (1 + v)) 0 (min (1 + v) k + 1) c.k c.t k_in in_row
     ∙ get-cells_with (1 + v) (0 + c.k) 0 (min (0 + c.k) t + 1) c.t (subst (λ n. c.t < min n t + 1) (sym here) t_in)
-    ∙ ap (λ (p : ℕ × ℕ × ℕ). let d : Triple = record { v = p.0; k = p.1; t = p.2 } in Some d) (λ i. (back i, here i, last i))
+    ∙ ap (λ (p : ℕ × ℕ × ℕ). let d : Triple = record { v = p.0; k = p.1; t = p.2 } in Some d)
+    (λ i. (back i, here i, last i))
 
 pub index_below : (f : Top) (c : Triple) → InFrame f c → index_of f c < size_of f
-index_below f c h = subst (λ n. index_of f c < n) (size_is f) (slice_get-inside (cells_of f) (index_of f c) c (at_index f c h))
+index_below f c h =
+    subst (λ n. index_of f c < n) (size_is f) (slice_get-inside (cells_of f) (index_of f c) c (at_index f c h))
 
 -- no frame has more cells
 pub size_small : (f : Top) → IsCell f.top → size_of f ≤ 99 * (26 * 9)
@@ -188,7 +198,8 @@ compare_cells c d =
     ⊎_elim (λ less. inr (inr (inr (sym same, inr (sym same_k, less)))))
     (λ over_t.
     let same_t : c.t ≡ d.t = omega arith in
-    inr (inl (ap (λ (p : ℕ × ℕ × ℕ). let e : Triple = record { v = p.0; k = p.1; t = p.2 } in e) (λ i. (same i, same_k i, same_t i)))))
+    let cell_of : ℕ × ℕ × ℕ → Triple = λ p. record { v = p.0; k = p.1; t = p.2 } in
+    inr (inl (ap cell_of (λ i. (same i, same_k i, same_t i)))))
     (cases_lt d.t c.t))
     (cases_lt c.t d.t))
     (cases_lt d.k c.k))
@@ -245,7 +256,8 @@ row_at t (suc n) place h =
     (λ low.
     let r = row_at t n place low in
     record { k = r.k; rest = r.rest; inside = omega (arith, r.inside); is = r.is; within = r.within })
-    (λ over. record { k = n; rest = place - before_k t n; inside = omega arith; is = omega arith; within = omega arith })
+    (λ over.
+    record { k = n; rest = place - before_k t n; inside = omega arith; is = omega arith; within = omega arith })
     (cases_lt place (before_k t n))
 
 record LayerAt (k t n place : ℕ) : Type 0 where
@@ -263,7 +275,8 @@ layer_at k t (suc n) place h =
     let r = layer_at k t n place low in
     record { v = r.v; rest = r.rest; inside = omega (arith, r.inside); is = r.is; within = r.within })
     (λ over.
-    record { v = n; rest = place - up_to_v k t n; inside = omega arith; is = omega arith; within = omega (arith, over, h) })
+    let inside : place - up_to_v k t n < before_k t (min (suc n) k + 1) = omega (arith, over, h) in
+    record { v = n; rest = place - up_to_v k t n; inside = omega arith; is = omega arith; within = inside })
     (cases_lt place (up_to_v k t n))
 
 record CellAt (f : Top) (place : ℕ) : Type 0 where
@@ -280,7 +293,14 @@ cell_at f place top h =
     record {
       cell = record { v = suc layer.v; k = row.k; t = row.rest };
       inside = record {
-        cell = (omega arith, omega (arith, layer.inside, top), omega (arith, row.within), omega (arith, narrow), omega (arith, narrow, top), omega (arith, row.within, top));
+        cell = (
+          omega arith,
+          omega (arith, layer.inside, top),
+          omega (arith, row.within),
+          omega (arith, narrow),
+          omega (arith, narrow, top),
+          omega (arith, row.within, top),
+        );
         v = omega (arith, layer.inside);
         k = omega (arith, narrow);
         t = omega (arith, row.within);
@@ -289,12 +309,14 @@ cell_at f place top h =
     }
 
 -- the cell at a place of the list is the one of that index
-pub place_is : (f : Top) (i : ℕ) (c : Triple) → IsCell f.top → slice_get (cells_of f) i ≡ Some c ↔ (InFrame f c × (index_of f c ≡ i))
+pub place_is : (f : Top) (i : ℕ) (c : Triple) → IsCell f.top
+    → slice_get (cells_of f) i ≡ Some c ↔ (InFrame f c × (index_of f c ≡ i))
 place_is f i c top = (
   λ found.
       let inside : i < size_of f = omega (arith, slice_get-inside (cells_of f) i c found, size_is f) in
       let here = cell_at f i top inside in
-      let is : slice_get (cells_of f) i ≡ Some here.cell = ap (slice_get (cells_of f)) (sym here.index) ∙ at_index f here.cell here.inside in
+      let is : slice_get (cells_of f) i ≡ Some here.cell =
+      ap (slice_get (cells_of f)) (sym here.index) ∙ at_index f here.cell here.inside in
       let same : here.cell ≡ c = cc in
       (subst (InFrame f) same here.inside, ap (index_of f) (sym same) ∙ here.index),
   λ h. ap (slice_get (cells_of f)) (sym h.1) ∙ at_index f c h.0,
@@ -303,5 +325,7 @@ place_is f i c top = (
 pub members : (f : Top) (c : Triple) → IsCell f.top → Contains (cells_of f) c ↔ InFrame f c
 members f c top = (
   λ (i, inside, is). ((place_is f i c top).0 (slice_get-get_or (cells_of f) i c inside ∙ ap (λ d. Some d) is)).0,
-  λ h. (index_of f c, omega (arith, index_below f c h, size_is f), get_or_from_slice_get (cells_of f) (index_of f c) c c (at_index f c h)),
+  λ h.
+      let below : index_of f c < length (cells_of f) = omega (arith, index_below f c h, size_is f) in
+      (index_of f c, below, get_or_from_slice_get (cells_of f) (index_of f c) c c (at_index f c h)),
 )

@@ -1,12 +1,11 @@
 -- The number of sets: where it is 0 and 1, that it grows, that it is small, and the number on two sides.
 use Rattle.std.proofs.Common.{◌≡◌, ℕ, zero, suc, ◌+◌, ◌-◌, ◌*◌, ◌<◌, ◌≤◌, ◌^◌, ltb, true, List, [], ◌∷◌, get_or, take}
 use Rattle.std.proofs.Common.{refl, ap, ◌∙◌, subst, arith, lit<}
-use Rattle.std.proofs.lemmas.Bool.{and_parts, ltb-true}
 use Rattle.std.specs.List.{list_all}
 use Rattle.lj_base.specs.Colex.{choose}
 use Rattle.lj_base.specs.Pascal.{next_row}
 use Rattle.lj_base.specs.declared.limits.TheConstants.{COST_LIMIT}
-use Rattle.lj_base.proofs.BinomialTable.{choices, get_or-choices, next_row-choices}
+use Rattle.lj_base.proofs.BinomialTable.{all_below, choices, get_or-choices, next_row-choices}
 
 -- there is no set of more points than there are
 pub choose-past : (n k : ℕ) → n < k → choose n k ≡ 0
@@ -73,13 +72,6 @@ at_99 : (r : ℕ) → r ≤ 16 → get_or (row_of 99) r 0 ≡ choose 99 r
 at_99 r h =
     let from_zero : 0 + r ≡ r = omega arith in
     ap (λ xs. get_or xs r 0) (row_is 99) ∙ get_or-choices 99 0 17 r (omega arith) ∙ ap (choose 99) from_zero
-
-all_below : (limit : ℕ) (xs : List ℕ) (r : ℕ) → 0 < limit → list_all (λ x. ltb x limit) xs ≡ true → get_or xs r 0 < limit
-all_below limit [] r some h = some
-all_below limit (x ∷ xs) zero some h =
-    ltb-true x limit (and_parts (ltb x limit) (list_all (λ y. ltb y limit) xs) h).0
-all_below limit (x ∷ xs) (suc r) some h =
-    all_below limit xs r some (and_parts (ltb x limit) (list_all (λ y. ltb y limit) xs) h).1
 
 get_or-front : (xs : List ℕ) (n r : ℕ) → r < n → get_or (take n xs) r 0 ≡ get_or xs r 0
 get_or-front xs zero r h = absurd (omega arith)

@@ -156,7 +156,8 @@ impl Sink for MemSink {
             n ≡ min self.old.piece (min (length bytes.now) (self.old.room - length self.old.written))) }
         ensures calls { self.new.calls ≡ one_more self.old.calls }
         ensures faults { self.new.faults ≡ (if is_err result then one_more self.old.faults else self.old.faults) }
-        ensures plan { (self.new.fails ≡ self.old.fails) × (self.new.piece ≡ self.old.piece) × (self.new.room ≡ self.old.room) }
+        ensures plan { (self.new.fails ≡ self.old.fails) × (self.new.piece ≡ self.old.piece)
+            × (self.new.room ≡ self.old.room) }
 
         ensures count { IfOk result (λ n. n ≤ length bytes.now) }
         ensures some { IfOk result (λ n. 0 < length bytes.now → 1 ≤ n) }

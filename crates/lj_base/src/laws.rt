@@ -10,8 +10,8 @@ ghost use Rattle.lj_base.specs.Frames.{size_of};
 
 use crate::limits::COST_LIMIT;
 
-/// On the cells of a frame the index is one to one, and below the frame's size, which is small. It is the number of cells with a
-/// lesser `v`, the number of those with the same `v` and a lesser `k`, and `t`, together.
+/// On the cells of a frame the index is one to one and below the frame's size, which is small. It is the sum of the
+/// number of cells with a lesser `v`, the number of those with the same `v` and a lesser `k`, and `t`.
 pub fn index_law()
     ensures below { (f : Top) (c : Triple) → InFrame f c → index_of f c < size_of f }
     ensures one_to_one { (f : Top) (c d : Triple) → InFrame f c → InFrame f d → index_of f c ≡ index_of f d → c ≡ d }
@@ -22,7 +22,8 @@ pub fn index_law()
 /// The index numbers a frame's cells in ascending order of `v`, then `k`, then `t`; and so does a number that does not
 /// depend on the frame.
 pub fn index_order_law()
-    ensures order { (f : Top) (c d : Triple) → InFrame f c → InFrame f d → (IsBefore c d ↔ (index_of f c < index_of f d)) }
+    ensures order { (f : Top) (c d : Triple) → InFrame f c → InFrame f d
+        → (IsBefore c d ↔ (index_of f c < index_of f d)) }
     ensures key { (c d : Triple) → IsCell c → IsCell d → (IsBefore c d ↔ (key c < key d)) }
 {}
 

@@ -14,4 +14,6 @@ returns-clause-index c =
     rw (← c.self.view_is) (omega (arith, v, c.row_at.ensures.place, c.layer_at-v.ensures.before))
 
 pub returns-clause-place : goal.returns-clause-place
-returns-clause-place c = ap (slice_get (cells_of c.args.self.now)) (sym (returns-clause-index c)) ∙ at_index c.args.self.now c.row_at.result (returns-clause-within c)
+returns-clause-place c =
+    ap (slice_get (cells_of c.args.self.now)) (sym (returns-clause-index c))
+    ∙ at_index c.args.self.now c.row_at.result (returns-clause-within c)

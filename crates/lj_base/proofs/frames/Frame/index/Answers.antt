@@ -10,7 +10,10 @@ returns-clause-index c =
     rw (← whole, ← c.c.view_is) (omega (arith, c.up_to.ensures.up_to, c.before-2.ensures.before))
 
 pub returns-clause-within : goal.returns-clause-within
-returns-clause-within c = subst (λ n. n < size_of c.args.self.now) (sym (returns-clause-index c)) (index_below c.args.self.now c.args.c c.requires)
+returns-clause-within c =
+    subst (λ n. n < size_of c.args.self.now) (sym (returns-clause-index c))
+    (index_below c.args.self.now c.args.c c.requires)
 
 pub returns-clause-place : goal.returns-clause-place
-returns-clause-place c = ap (slice_get (cells_of c.args.self.now)) (returns-clause-index c) ∙ at_index c.args.self.now c.args.c c.requires
+returns-clause-place c =
+    ap (slice_get (cells_of c.args.self.now)) (returns-clause-index c) ∙ at_index c.args.self.now c.args.c c.requires

@@ -6,4 +6,5 @@ use Rattle.lj_base.proofs.points.Points.has.Goals as goal
 pub returns : goal.returns
 returns g c =
     let found = c.contains.ensures.value ∙ ap (list_any (λ y. eqb y c.args.p)) c.self.view_is in
-    (λ yes. Has-from_any c.args.self.now c.args.p (sym found ∙ yes), λ has. found ∙ any-from_Has c.args.self.now c.args.p has)
+    let xs = c.args.self.now in
+    (λ yes. Has-from_any xs c.args.p (sym found ∙ yes), λ has. found ∙ any-from_Has xs c.args.p has)

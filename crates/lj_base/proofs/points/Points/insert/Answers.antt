@@ -16,7 +16,8 @@ invariant_of-self g c =
     let count = count_back _ _ _ c.self.invariant.padding in
     let same = ap length c.self.view_is in
     rw c.copy_within.ensures.after
-    (HoldsPoints-moved _ _ _ _ _ (omega (arith, at.0, count)) (omega (arith, same, count, c.requires.room)) c.self.invariant c.requires.in_range at.1 at.2)
+    (HoldsPoints-moved _ _ _ _ _ (omega (arith, at.0, count)) (omega (arith, same, count, c.requires.room))
+    c.self.invariant c.requires.in_range at.1 at.2)
 
 pub returns-clause-fresh : goal.returns-clause-fresh
 returns-clause-fresh g c =
@@ -30,8 +31,14 @@ returns-clause-points g c =
     let same = ap length c.self.view_is in
     let low : c.in-Err.place ≤ c.self.inside.len = omega (arith, at.0, count) in
     let room : c.self.inside.len < g.row.N = omega (arith, same, count, c.requires.room) in
-    rw (c.copy_within.ensures.after, take-moved g.row.N c.self.inside.len c.in-Err.place c.args.p c.self.inside.points low room c.self.invariant.padding)
-    (λ q. subst (λ xs. Has (with_point c.in-Err.place c.args.p (take c.self.inside.len c.self.inside.points)) q ↔ ((c.args.p ≡ q) ⊎ Has xs q)) c.self.view_is (Has-with_point c.in-Err.place c.args.p _ q))
+    let place = c.in-Err.place in
+    let padding = c.self.invariant.padding in
+    let points = take-moved g.row.N c.self.inside.len place c.args.p c.self.inside.points low room padding in
+    rw (c.copy_within.ensures.after, points)
+    (λ q.
+    let before = take c.self.inside.len c.self.inside.points in
+    subst (λ xs. Has (with_point place c.args.p before) q ↔ ((c.args.p ≡ q) ⊎ Has xs q)) c.self.view_is
+    (Has-with_point place c.args.p _ q))
 
 pub returns-clause-len : goal.returns-clause-len
 returns-clause-len g c =
@@ -40,5 +47,8 @@ returns-clause-len g c =
     let same = ap length c.self.view_is in
     let low : c.in-Err.place ≤ c.self.inside.len = omega (arith, at.0, count) in
     let room : c.self.inside.len < g.row.N = omega (arith, same, count, c.requires.room) in
-    rw (c.copy_within.ensures.after, take-moved g.row.N c.self.inside.len c.in-Err.place c.args.p c.self.inside.points low room c.self.invariant.padding)
+    let place = c.in-Err.place in
+    let padding = c.self.invariant.padding in
+    let points = take-moved g.row.N c.self.inside.len place c.args.p c.self.inside.points low room padding in
+    rw (c.copy_within.ensures.after, points)
     (length-with_point c.in-Err.place c.args.p _ ∙ ap (λ n. n + 1) same)
