@@ -1,5 +1,5 @@
 -- One point at most completes a list to xor 0: the xor of the list itself.
-use Rattle.std.proofs.Common.{◌≡◌, ℕ, zero, suc, ◌-◌, ◌^◌, ◌<◌, ◌≤◌, ◌≢◌, ◌==◌, true, false, cond, List, [], ◌∷◌, ◌++◌, bit_xor, length, refl, sym, ap, ap₂, ◌∙◌, subst, arith, append-nil, ne_eqb, eq-eqb, ⊎_elim}
+use Rattle.std.proofs.Common.{◌≡◌, ℕ, zero, suc, ◌-◌, ◌^◌, ◌<◌, ◌≤◌, ◌≢◌, ◌==◌, true, false, cond, List, [], ◌∷◌, ◌++◌, bit_xor, refl, sym, ap, ap₂, ◌∙◌, arith, append-nil, ne_eqb, eq-eqb, ⊎_elim}
 use Rattle.std.proofs.lemmas.Nat.{xor_lt}
 use Rattle.std.proofs.lemmas.Bool.{cases_lt}
 use Rattle.std.proofs.lemmas.List.Sums.{fold-append}
@@ -48,18 +48,6 @@ module _ (front : List ℕ) (v : ℕ) where
       (λ (h : last ≤ lo).
       ap₂ (λ bs cs. bs ++ cs) (with_point lo (omega arith)) (none_from n (suc lo) (omega arith) (λ x from under same. omega (arith, same))))
       (cases_lt lo last)
-
-  pub at_most_one : (lo : ℕ) → length (completions front lo v 1) ≤ 1
-  at_most_one lo =
-      let none = λ (h : (x : ℕ) → lo ≤ x → x < v → x ≢ last). subst (λ bs. length bs ≤ 1) (sym (none_from (v - lo) lo refl h)) (omega arith) in
-      ⊎_elim
-      (λ (h : last < lo). none (λ x from under same. omega (arith, same)))
-      (λ (h : lo ≤ last).
-      ⊎_elim
-      (λ (k : last < v). subst (λ bs. length bs ≤ 1) (sym (one_from (v - lo) lo refl h k)) (omega arith))
-      (λ (k : v ≤ last). none (λ x from under same. omega (arith, same)))
-      (cases_lt last v))
-      (cases_lt last lo)
 
 -- ---- the fourth point of a quadruple
 

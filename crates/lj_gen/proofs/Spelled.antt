@@ -6,12 +6,13 @@ use Rattle.lj_base.specs.Blocks.{AreBlocks, Ascends, IsBlock}
 use Rattle.lj_base.specs.Cells.{IsCell, Triple}
 use Rattle.lj_text.specs.Lines.{IsPlain, after_line, line_text, placed_from, text_lines, with_feeds}
 use Rattle.lj_text.specs.Numbers.{number_of}
-use Rattle.lj_text.specs.Tokens.{IsWord, join_by_space, token_text, tokens_of}
+use Rattle.lj_text.specs.Tokens.{IsWord, join_by_space, token_text, tokens_of, words, words_of}
 use Rattle.lj_text.specs.declared.lines.Line.{Line}
 use Rattle.lj_upload.specs.Names.{IsName}
 use Rattle.lj_blockfile.specs.BlockFiles.{blocks_text}
 use Rattle.lj_blockfile.specs.BlockLines.{block_line}
-use Rattle.lj_script.specs.Scripts.{IsEnd, IsReadUpTo, NamesCell, words, words_of}
+use Rattle.lj_script.specs.LineForms.{IsEnd, NamesCell}
+use Rattle.lj_script.specs.Scripts.{IsReadUpTo}
 use Rattle.lj_script.specs.declared.scripts.Command.TheVariants.{Upload, Bound, Settle}
 use Rattle.lj_gen.specs.Generated.{cell_line, derived_cell, frame_cell, head_lines, tail_lines, upload_cell}
 use Rattle.lj_gen.proofs.PlainLines.{IsCell-derived, IsCell-frame, IsCell-upload, are_plain}

@@ -6,7 +6,7 @@ use Rattle.lj_blockfile.specs.BlockFiles.{blocks_text}
 use Rattle.lj_blockfile.specs.BlockLines.{block_line}
 use Rattle.lj_gen.specs.Generated.{cell_line, frame_cell, gen_text, head_lines, tail_lines, upload_cell}
 use Rattle.lj_gen.specs.Quadruples.{completions, gen_blocks}
-use Rattle.lj_gen.proofs.Counts.{completions-gen_blocks}
+use Rattle.lj_gen.proofs.Chosen.{completions-gen_blocks}
 
 -- the lines before the blocks, those of the blocks, and those behind
 pub text-parts : (head inner tail : List (List ℕ)) → with_feeds (head ++ (inner ++ tail)) ≡ with_feeds head ++ (with_feeds inner ++ with_feeds tail)

@@ -29,7 +29,7 @@ cell_line word c = join_by_space (word ∷ decimal c.v ∷ decimal c.k ∷ decim
 abbrev pub head_lines : ℕ → List (List ℕ)
 head_lines v = cell_line (codes "frame") (frame_cell v) ∷ codes "client gen" ∷ cell_line (codes "upload") (upload_cell v) ∷ []
 
--- the lines behind the blocks
+-- the lines after the blocks
 abbrev pub tail_lines : ℕ → List (List ℕ)
 tail_lines v = codes "end" ∷ codes "settle" ∷ cell_line (codes "bound") (upload_cell v) ∷ cell_line (codes "bound") (derived_cell v) ∷ []
 

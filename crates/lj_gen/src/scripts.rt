@@ -1,12 +1,13 @@
-ghost use Rattle.std.specs.Prelude.{◌≡◌, ◌^◌, ◌≤◌, [], ◌∷◌, ◌++◌, IfOk, OnOk, decimal};
+ghost use Rattle.std.specs.Prelude.{◌≡◌, ◌-◌, ◌*◌, ◌^◌, ◌≤◌, [], ◌∷◌, ◌++◌, IfOk, OnOk, decimal, length};
+ghost use Rattle.std.specs.List.{AllPairs};
 ghost use Rattle.lj_base.specs.Blocks.{Covers};
 ghost use Rattle.lj_text.specs.Lines.{with_feeds};
 ghost use Rattle.lj_blockfile.specs.BlockFiles.{AreBlocksOf, blocks_text};
 ghost use Rattle.lj_script.specs.Scripts.{IsScript};
 ghost use Rattle.lj_gen.specs.Generated.{cell_line, gen_text, gen_value, head_lines, tail_lines, upload_cell};
-ghost use Rattle.lj_gen.specs.Quadruples.{gen_blocks};
+ghost use Rattle.lj_gen.specs.Quadruples.{IsLexicographicallyBefore, gen_blocks};
 
-use crate::laws::generated_law;
+use crate::laws::{generated_law, quadruples_law};
 use crate::quadruples::put_quadruples;
 use lj_base::{Cell, Memory};
 use lj_text::{put, put_number};
@@ -24,14 +25,17 @@ pub fn gen_script(alloc: Global, m: u64) -> Result<Vec<u8>, Memory>
     ensures script { IsScript (gen_text m) (gen_value m) }
     ensures blocks { AreBlocksOf (blocks_text (gen_blocks m)) (2 ^ m) 4 (gen_blocks m) }
 
-    // Each three points are in the block with their xor.
+    // The blocks are in order, as many as stated, and each three points are in the block with their xor.
+    ensures order { AllPairs IsLexicographicallyBefore (gen_blocks m) }
+    ensures number { 24 * length (gen_blocks m) ≡ 2 ^ m * (2 ^ m - 1) * (2 ^ m - 2) }
     ensures covers { Covers (gen_blocks m) (record { v = 2 ^ m; k = 4; t = 3 }) }
 {
     generated_law();
+    quadruples_law();
     script_text(alloc, m)
 }
 
-// The same, by its text alone.
+// The text of the script.
 fn script_text(alloc: Global, m: u64) -> Result<Vec<u8>, Memory>
     requires low { 2 ≤ m }
     requires high { m ≤ 6 }
@@ -68,7 +72,7 @@ fn put_head(v: u8, out: &mut Vec<u8>) -> Result<(), Memory>
     put_cell(b"upload", Cell { v, k: 4, t: 3 }, out)
 }
 
-// Appends the lines behind the blocks.
+// Appends the lines after the blocks.
 fn put_tail(v: u8, out: &mut Vec<u8>) -> Result<(), Memory>
     requires low { 4 ≤ v }
     requires high { v ≤ 99 }
@@ -164,7 +168,7 @@ mod tests {
     }
 
     #[test]
-    fn there_are_so_many_blocks(rt: HostRuntime) -> Result<(), Fail> {
+    fn the_number_of_blocks_is_as_stated(rt: HostRuntime) -> Result<(), Fail> {
         let alloc = rt.alloc();
         assert_eq!(rt; block_lines(alloc, 3)?, 14);
         assert_eq!(rt; block_lines(alloc, 4)?, 140);
