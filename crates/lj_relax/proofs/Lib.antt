@@ -1,0 +1,5 @@
+pub mod Accepting
+pub mod Ageing
+pub mod Publishing
+pub mod Resting
+pub mod Same
