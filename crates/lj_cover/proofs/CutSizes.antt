@@ -1,6 +1,6 @@
 -- The sizes that the cuts of a list's blocks have, and how a row counts them.
 use Rattle.std.proofs.Common.{◌≡◌, ℕ, zero, suc, ◌+◌, ◌-◌, ◌<◌, ◌≤◌, ◌↔◌, ◌⊎◌, ◌≢◌, ◌||◌, Bool, true, false, cond, eqb}
-use Rattle.std.proofs.Common.{ltb, List, [], ◌∷◌, length, map, get_or, sum, refl, sym, ap, ap₂, ◌∙◌, subst, arith}
+use Rattle.std.proofs.Common.{ltb, List, [], ◌∷◌, length, map, get_or, sum, refl, sym, ap, ap₂, ◌∙◌, subst, subst₂, arith}
 use Rattle.std.proofs.Common.{zero-add, inl, inr, ⊎_elim}
 use Rattle.std.proofs.lemmas.Bool.{cases_lt, cond_both, cond-false, eq-eqb, eqb-true, false≢true, lt-ltb, le-ltb}
 use Rattle.std.proofs.lemmas.Bool.{ne_eqb, or_cases, or_left, or_right}
@@ -264,3 +264,14 @@ sizes_by_row v m k w bs blocks small =
     too_large l large =
         let none = count_none v m w l bs blocks large in
         any_from_count (λ b. eqb (length (cut w b)) l) bs ∙ ap (ltb 0) none ∙ le-ltb 0 0 (omega arith)
+
+-- no size is above 25
+pub sizes_small : (v m k w : ℕ) (bs : List (List ℕ)) → AreBlocks v m bs → m ≤ 25 → k ≤ 25
+    → Ascends (k + 1) 26 (cut_sizes k w bs)
+sizes_small v m k w bs blocks small few =
+    let first : suc k ≡ k + 1 = omega arith in
+    let last : suc k + (25 - k) ≡ 26 = omega arith in
+    let counted = λ (l : ℕ). ltb 0 (get_or (cut_counts w bs) l 0) in
+    subst (Ascends (k + 1) 26) (sym (sizes_by_row v m k w bs blocks small))
+    (subst₂ (λ lo top. Ascends lo top (filter counted (range_with_len (suc k) (25 - k)))) first last
+    (Ascends-filter counted (suc k) (suc k + (25 - k)) (range_with_len (suc k) (25 - k)) (Ascends-range (suc k) (25 - k))))

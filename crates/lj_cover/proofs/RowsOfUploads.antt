@@ -191,7 +191,12 @@ same_rows lo v (x ∷ xs) (y ∷ ys) h k into back =
     let first : x ≡ y =
     ⊎_elim (λ same. sym same)
     (λ after. ⊎_elim (λ same. same)
-    (λ other. absurd (omega (arith, place_from (suc y.upload) v ys x k.2 after, place_from (suc x.upload) v xs y h.2 other)))
+    (λ other. absurd (omega (
+      arith,
+      place_from (suc y.upload) v ys x k.2 after,
+      place_from
+          (suc x.upload) v xs y h.2 other,
+    )))
     (Contains-cases x y xs (back y (Contains-first y ys))))
     (Contains-cases y x ys (into x (Contains-first x xs))) in
     let place = ap (λ (q : Row). q.upload) first in
