@@ -1,6 +1,7 @@
 -- The sizes that the cuts of a list's blocks have, and how a row counts them.
 use Rattle.std.proofs.Common.{◌≡◌, ℕ, zero, suc, ◌+◌, ◌-◌, ◌<◌, ◌≤◌, ◌↔◌, ◌⊎◌, ◌≢◌, ◌||◌, Bool, true, false, cond, eqb}
-use Rattle.std.proofs.Common.{ltb, List, [], ◌∷◌, length, map, get_or, sum, refl, sym, ap, ap₂, ◌∙◌, subst, subst₂, arith}
+use Rattle.std.proofs.Common.{ltb, List, [], ◌∷◌, length, map, get_or, sum, refl, sym, ap, ap₂, ◌∙◌, subst, subst₂}
+use Rattle.std.proofs.Common.{arith}
 use Rattle.std.proofs.Common.{zero-add, inl, inr, ⊎_elim}
 use Rattle.std.proofs.lemmas.Bool.{cases_lt, cond_both, cond-false, eq-eqb, eqb-true, false≢true, lt-ltb, le-ltb}
 use Rattle.std.proofs.lemmas.Bool.{ne_eqb, or_cases, or_left, or_right}
@@ -274,4 +275,5 @@ sizes_small v m k w bs blocks small few =
     let counted = λ (l : ℕ). ltb 0 (get_or (cut_counts w bs) l 0) in
     subst (Ascends (k + 1) 26) (sym (sizes_by_row v m k w bs blocks small))
     (subst₂ (λ lo top. Ascends lo top (filter counted (range_with_len (suc k) (25 - k)))) first last
-    (Ascends-filter counted (suc k) (suc k + (25 - k)) (range_with_len (suc k) (25 - k)) (Ascends-range (suc k) (25 - k))))
+    (Ascends-filter counted (suc k) (suc k + (25 - k)) (range_with_len (suc k) (25 - k))
+        (Ascends-range (suc k) (25 - k))))
