@@ -10,7 +10,7 @@ use Rattle.std.proofs.lemmas.List.Sums.{sum_by-cons}
 use Rattle.std.specs.List.{Contains, count_by, filter, list_any, range_with_len}
 use Rattle.lj_base.specs.Blocks.{AreBlocks, Ascends, Has}
 use Rattle.lj_base.proofs.Ascending.{Ascends-range, Ascends-wider, Has-from, Has-range, length-ascending}
-use Rattle.lj_cover.specs.BlockLists.{at_size, cut_sizes}
+use Rattle.lj_cover.specs.BlockLists.{cut_sizes}
 use Rattle.lj_cover.specs.Cuts.{IsCutSize, sizes_in}
 use Rattle.lj_cover.specs.Instances.{cut_counts}
 use Rattle.lj_cover.specs.Operations.{cut}
@@ -99,14 +99,6 @@ sizes_ascend k w bs small =
     (subst (λ v. Ascends (suc k) v (cut_sizes k w bs)) last
     (Ascends-filter (is_size w bs) (suc k) (suc k + (w - k)) (range_with_len (suc k) (w - k))
     (Ascends-range (suc k) (w - k))))
-
-pub at_size_is : {A : Type 0} (f : ℕ → A) (sizes : List ℕ) (d : A) (l : ℕ) → Has sizes l
-    → at_size sizes (map f sizes) d l ≡ f l
-at_size_is f [] d l has = absurd has
-at_size_is f (s ∷ ss) d l has =
-    cond_both (eqb s l) (f s) (at_size ss (map f ss) d l) (λ x. x ≡ f l)
-    (λ e. ap f (eqb-true s l e))
-    (λ e. at_size_is f ss d l (⊎_elim (λ same. absurd (false≢true (sym e ∙ eq-eqb s l same))) (λ rest. rest) has))
 
 -- The counts of a row.
 
@@ -276,4 +268,4 @@ sizes_small v m k w bs blocks small few =
     subst (Ascends (k + 1) 26) (sym (sizes_by_row v m k w bs blocks small))
     (subst₂ (λ lo top. Ascends lo top (filter counted (range_with_len (suc k) (25 - k)))) first last
     (Ascends-filter counted (suc k) (suc k + (25 - k)) (range_with_len (suc k) (25 - k))
-        (Ascends-range (suc k) (25 - k))))
+    (Ascends-range (suc k) (25 - k))))
