@@ -8,7 +8,7 @@ abbrev pub Ascends : ℕ → ℕ → List ℕ → Type 0
 Ascends lo v [] = Unit {0}
 Ascends lo v (x ∷ xs) = (lo ≤ x) × (x < v) × Ascends (suc x) v xs
 
--- the list is a block of k points below v; a set of t points below v is meant by IsBlock v t
+-- a block of k points below v; a set of t points below v is one of t points
 abbrev pub IsBlock : ℕ → ℕ → List ℕ → Type 0
 IsBlock v k b = Ascends 0 v b × (length b ≡ k)
 

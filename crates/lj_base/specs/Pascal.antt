@@ -13,9 +13,8 @@ next_row (x ∷ xs) = x ∷ sums_after x xs
 
 abbrev pub same_numbers : List ℕ → List ℕ → Bool
 same_numbers [] [] = true
-same_numbers [] (y ∷ ys) = false
-same_numbers (x ∷ xs) [] = false
 same_numbers (x ∷ xs) (y ∷ ys) = (x == y) && same_numbers xs ys
+same_numbers _ _ = false
 
 -- the rows are those of the triangle, from this one on
 abbrev pub are_rows_from : List ℕ → List (List ℕ) → Bool

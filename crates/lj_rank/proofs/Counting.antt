@@ -47,7 +47,8 @@ rank-below (suc v) s h =
     s h
 
 -- one more point counted
-pub rank-take_more : (s : List ℕ) (i : ℕ) → i < length s → rank_of (take (i + 1) s) ≡ rank_of (take i s) + choose (get_or s i 0) (i + 1)
+pub rank-take_more : (s : List ℕ) (i : ℕ) → i < length s
+    → rank_of (take (i + 1) s) ≡ rank_of (take i s) + choose (get_or s i 0) (i + 1)
 rank-take_more s i within =
     let place : suc (length (take i s)) ≡ i + 1 = omega (arith, length-take-le i s (omega arith)) in
     let count = ap (choose (get_or s i 0)) place in

@@ -15,7 +15,9 @@ Precedes-top v s t hs ht = record {
   earlier_lacks = λ has. let below = Has-below 0 v v s hs has in absurd (omega (arith, below));
   same_above = λ p above. (
     λ has. let below = Has-below 0 v p s hs has in absurd (omega (arith, below)),
-    λ has. ⊎_elim (λ in_t. let below = Has-below 0 v p t ht in_t in absurd (omega (arith, below))) (λ e. absurd (omega (arith, e))) (Has-push_cases t v p has),
+    λ has.
+        ⊎_elim (λ in_t. let below = Has-below 0 v p t ht in_t in absurd (omega (arith, below)))
+        (λ e. absurd (omega (arith, e))) (Has-push_cases t v p has),
   );
 }
 
@@ -26,7 +28,7 @@ not_before-top v s t ht h =
     let too_low = Has-below 0 v v t ht also in
     omega (arith, too_low)
 
--- the top point in both says nothing
+-- where both have the top point the other points decide
 Precedes-push : (v : ℕ) (s t : List ℕ) → Ascends 0 v t → Precedes s t → Precedes (s ++ v ∷ []) (t ++ v ∷ [])
 Precedes-push v s t ht h =
     let below = Has-below 0 v h.point t ht h.later_has in
@@ -35,12 +37,17 @@ Precedes-push v s t ht h =
       later_has = Has-push t v h.point h.later_has;
       earlier_lacks = λ has. ⊎_elim h.earlier_lacks (λ e. omega (arith, e, below)) (Has-push_cases s v h.point has);
       same_above = λ p above. (
-        λ has. ⊎_elim (λ in_s. Has-push t v p ((h.same_above p above).0 in_s)) (λ e. subst (Has (t ++ v ∷ [])) e (Has-last t v)) (Has-push_cases s v p has),
-        λ has. ⊎_elim (λ in_t. Has-push s v p ((h.same_above p above).1 in_t)) (λ e. subst (Has (s ++ v ∷ [])) e (Has-last s v)) (Has-push_cases t v p has),
+        λ has.
+            ⊎_elim (λ in_s. Has-push t v p ((h.same_above p above).0 in_s))
+            (λ e. subst (Has (t ++ v ∷ [])) e (Has-last t v)) (Has-push_cases s v p has),
+        λ has.
+            ⊎_elim (λ in_t. Has-push s v p ((h.same_above p above).1 in_t))
+            (λ e. subst (Has (s ++ v ∷ [])) e (Has-last s v)) (Has-push_cases t v p has),
       );
     }
 
-Precedes-pop : (v : ℕ) (s t : List ℕ) → Ascends 0 v s → Ascends 0 v t → Precedes (s ++ v ∷ []) (t ++ v ∷ []) → Precedes s t
+Precedes-pop : (v : ℕ) (s t : List ℕ) → Ascends 0 v s → Ascends 0 v t → Precedes (s ++ v ∷ []) (t ++ v ∷ [])
+    → Precedes s t
 Precedes-pop v s t hs ht h =
     let not_top : v ≡ h.point → ⊥ = λ e. h.earlier_lacks (subst (Has (s ++ v ∷ [])) e (Has-last s v)) in
     let in_t : Has t h.point = ⊎_elim (λ has. has) (λ e. absurd (not_top e)) (Has-push_cases t v h.point h.later_has) in
@@ -51,10 +58,12 @@ Precedes-pop v s t hs ht h =
       same_above = λ p above. (
         λ has.
             let below = Has-below 0 v p s hs has in
-            ⊎_elim (λ in_t. in_t) (λ e. absurd (omega (arith, e, below))) (Has-push_cases t v p ((h.same_above p above).0 (Has-push s v p has))),
+            ⊎_elim (λ in_t. in_t) (λ e. absurd (omega (arith, e, below)))
+            (Has-push_cases t v p ((h.same_above p above).0 (Has-push s v p has))),
         λ has.
             let below = Has-below 0 v p t ht has in
-            ⊎_elim (λ in_s. in_s) (λ e. absurd (omega (arith, e, below))) (Has-push_cases s v p ((h.same_above p above).1 (Has-push t v p has))),
+            ⊎_elim (λ in_s. in_s) (λ e. absurd (omega (arith, e, below)))
+            (Has-push_cases s v p ((h.same_above p above).1 (Has-push t v p has))),
       );
     }
 
@@ -71,14 +80,18 @@ agree-with : (v : ℕ) (s t : List ℕ) → Ascends 0 v s → Ascends 0 v t → 
 agree-with v s t hs ht same =
     let long : length t ≡ suc (length s) = omega (arith, same, length_push s v) in
     let room = ap (λ n. choose v n) long in
-    (λ h. absurd (not_before-top v s t ht h), λ less. absurd (omega (arith, less, rank-push s v, rank-below v t ht, room)))
+    let first = rank-push s v in
+    let second = rank-below v t ht in
+    (λ h. absurd (not_before-top v s t ht h), λ less. absurd (omega (arith, less, first, second, room)))
 
 agree-both : (v : ℕ) (s t : List ℕ) → Ascends 0 v s → Ascends 0 v t → Agree s t → Agree (s ++ v ∷ []) (t ++ v ∷ [])
 agree-both v s t hs ht rest same =
     let long : length s ≡ length t = omega (arith, same, length_push s v, length_push t v) in
-    let top = ap (λ n. choose v (suc n)) long in (
-      λ h. let less = (rest long).0 (Precedes-pop v s t hs ht h) in omega (arith, less, top, rank-push s v, rank-push t v),
-      λ less. Precedes-push v s t ht ((rest long).1 (omega (arith, less, top, rank-push s v, rank-push t v))),
+    let top = ap (λ n. choose v (suc n)) long in
+    let first = rank-push s v in
+    let second = rank-push t v in (
+      λ h. let less = (rest long).0 (Precedes-pop v s t hs ht h) in omega (arith, less, top, first, second),
+      λ less. Precedes-push v s t ht ((rest long).1 (omega (arith, less, top, first, second))),
     )
 
 -- of two sets of as many points, the one of the lower rank stands before the other
@@ -88,6 +101,10 @@ Precedes-rank zero [] (y ∷ ys) hs ht same = absurd (omega arith)
 Precedes-rank zero (x ∷ xs) t hs ht same = absurd (omega arith)
 Precedes-rank (suc v) s t hs ht same =
     top_cases 0 v (λ xs. Agree xs t)
-    (λ xs k. top_cases 0 v (λ ys. Agree xs ys) (λ ys l. Precedes-rank v xs ys k l) (λ ys l. agree-without v xs ys k l) t ht)
-    (λ xs k. top_cases 0 v (λ ys. Agree (xs ++ v ∷ []) ys) (λ ys l. agree-with v xs ys k l) (λ ys l. agree-both v xs ys k l (Precedes-rank v xs ys k l)) t ht)
+    (λ xs k.
+    top_cases 0 v (λ ys. Agree xs ys)
+    (λ ys l. Precedes-rank v xs ys k l) (λ ys l. agree-without v xs ys k l) t ht)
+    (λ xs k.
+    top_cases 0 v (λ ys. Agree (xs ++ v ∷ []) ys)
+    (λ ys l. agree-with v xs ys k l) (λ ys l. agree-both v xs ys k l (Precedes-rank v xs ys k l)) t ht)
     s hs same

@@ -1,11 +1,13 @@
 -- The sets of a block: without its last point, and with it.
-use Rattle.std.proofs.Common.{◌≡◌, ◌⊎◌, ◌↔◌, ℕ, zero, suc, ◌+◌, ◌-◌, ◌<◌, ◌≤◌, inl, inr, ⊎_elim, List, [], ◌∷◌, ◌++◌, length, take, get_or, refl, sym, ap, ◌∙◌, subst, arith}
+use Rattle.std.proofs.Common.{◌≡◌, ◌⊎◌, ◌↔◌, ℕ, zero, suc, ◌+◌, ◌-◌, ◌<◌, ◌≤◌, inl, inr, ⊎_elim, List, [], ◌∷◌, ◌++◌}
+use Rattle.std.proofs.Common.{length, take, get_or, refl, sym, ap, ◌∙◌, subst, arith}
 use Rattle.std.proofs.lemmas.List.{length_push}
 use Rattle.lj_base.specs.Blocks.{Ascends, Has, Within}
 use Rattle.lj_base.specs.Colex.{choose}
 use Rattle.lj_rank.specs.Ranks.{rank_of, IsSubset, IsFirstFrom}
 use Rattle.lj_base.proofs.Ascending.{AllBelow-from_Has, Ascends-narrow, Has-from_Within, Within-from_Has}
-use Rattle.lj_base.proofs.Ascending.{Ascends-before, Ascends-get_or_below, Ascends-push, Ascends-wider, Has-below, Has-last, Has-push, Has-push_cases, top_cases}
+use Rattle.lj_base.proofs.Ascending.{Ascends-before, Ascends-get_or_below, Ascends-push, Ascends-wider, Has-below}
+use Rattle.lj_base.proofs.Ascending.{Has-last, Has-push, Has-push_cases, top_cases}
 use Rattle.lj_base.proofs.Lists.{take-by_last}
 use Rattle.lj_rank.proofs.Counting.{rank-below, rank-push}
 
@@ -15,16 +17,20 @@ Ascends-subset v t b s k h =
     Ascends-narrow 0 99 v s h.0.0 (AllBelow-from_Has v s (λ p has. Has-below 0 v p b k (Has-from_Within s b h.1 p has)))
 
 pub IsSubset-widen : (b : List ℕ) (v t : ℕ) (s : List ℕ) → IsSubset b t s → IsSubset (b ++ v ∷ []) t s
-IsSubset-widen b v t s h = (h.0, Within-from_Has s (b ++ v ∷ []) (λ p has. Has-push b v p (Has-from_Within s b h.1 p has)))
+IsSubset-widen b v t s h =
+    (h.0, Within-from_Has s (b ++ v ∷ []) (λ p has. Has-push b v p (Has-from_Within s b h.1 p has)))
 
-pub IsSubset-push : (b : List ℕ) (v t : ℕ) (s : List ℕ) → Ascends 0 v b → v < 99 → 0 < t → IsSubset b (t - 1) s → IsSubset (b ++ v ∷ []) t (s ++ v ∷ [])
+pub IsSubset-push : (b : List ℕ) (v t : ℕ) (s : List ℕ) → Ascends 0 v b → v < 99 → 0 < t → IsSubset b (t - 1) s
+    → IsSubset (b ++ v ∷ []) t (s ++ v ∷ [])
 IsSubset-push b v t s k below some h = (
   (Ascends-push 0 v 99 s (omega arith) below (Ascends-subset v (t - 1) b s k h), omega (arith, length_push s v, h.0.1)),
   Within-from_Has (s ++ v ∷ []) (b ++ v ∷ []) (λ p has.
-      ⊎_elim (λ in_s. Has-push b v p (Has-from_Within s b h.1 p in_s)) (λ e. subst (Has (b ++ v ∷ [])) e (Has-last b v)) (Has-push_cases s v p has)),
+      ⊎_elim (λ in_s. Has-push b v p (Has-from_Within s b h.1 p in_s))
+      (λ e. subst (Has (b ++ v ∷ [])) e (Has-last b v)) (Has-push_cases s v p has)),
 )
 
-Within-drop_last : (b : List ℕ) (v : ℕ) (s : List ℕ) → Ascends 0 v s → ((p : ℕ) → Has s p → Has (b ++ v ∷ []) p) → Within s b
+Within-drop_last : (b : List ℕ) (v : ℕ) (s : List ℕ) → Ascends 0 v s → ((p : ℕ) → Has s p → Has (b ++ v ∷ []) p)
+    → Within s b
 Within-drop_last b v s k h =
     Within-from_Has s b (λ p has.
     let below = Has-below 0 v p s k has in
@@ -38,9 +44,12 @@ subset_cases b v t P k below some without with_last s h =
     let all : (p : ℕ) → Has s p → Has (b ++ v ∷ []) p = Has-from_Within s (b ++ v ∷ []) h.1 in
     let limit : Ascends 0 (suc v) (b ++ v ∷ []) = Ascends-push 0 v (suc v) b (omega arith) (omega arith) k in
     top_cases 0 v (λ r. length r ≡ t → ((p : ℕ) → Has r p → Has (b ++ v ∷ []) p) → P r)
-    (λ r low count points. without r ((Ascends-wider 0 0 v 99 r (omega arith) (omega arith) low, count), Within-drop_last b v r low points))
     (λ r low count points.
-    with_last r ((Ascends-wider 0 0 v 99 r (omega arith) (omega arith) low, omega (arith, count, length_push r v)), Within-drop_last b v r low (λ p has. points p (Has-push r v p has))))
+    without r ((Ascends-wider 0 0 v 99 r (omega arith) (omega arith) low, count), Within-drop_last b v r low points))
+    (λ r low count points.
+    let shorter : length r ≡ t - 1 = omega (arith, count, length_push r v) in
+    let inside = Within-drop_last b v r low (λ p has. points p (Has-push r v p has)) in
+    with_last r ((Ascends-wider 0 0 v 99 r (omega arith) (omega arith) low, shorter), inside))
     s (Ascends-subset (suc v) t (b ++ v ∷ []) s limit h) h.0.1 all
 
 count_with : (v : ℕ) (b : List ℕ) → suc v ≤ 99 → Ascends 0 v b → ((t : ℕ) (s : List ℕ) → IsSubset b t s → t ≤ length b)
@@ -68,7 +77,8 @@ rank-subset_below b v t s k h =
     let count = ap (choose v) h.0.1 in
     omega (arith, rank-below v s (Ascends-subset v t b s k h), count)
 
-pub rank-subset_push : (b : List ℕ) (v t : ℕ) (s : List ℕ) → 0 < t → IsSubset b (t - 1) s → rank_of (s ++ v ∷ []) ≡ rank_of s + choose v t
+pub rank-subset_push : (b : List ℕ) (v t : ℕ) (s : List ℕ) → 0 < t → IsSubset b (t - 1) s
+    → rank_of (s ++ v ∷ []) ≡ rank_of s + choose v t
 rank-subset_push b v t s some h =
     let place : suc (length s) ≡ t = omega (arith, h.0.1) in
     let count = ap (choose v) place in
@@ -82,7 +92,8 @@ NoneFrom b t least = (s : List ℕ) → IsSubset b t s → rank_of s < least
 pub NoneFrom-without : (b : List ℕ) (v t least : ℕ) → Ascends 0 v b → choose v t ≤ least → NoneFrom b t least
 NoneFrom-without b v t least k reaches s h = omega (arith, rank-subset_below b v t s k h)
 
-pub IsFirstFrom-without : (b : List ℕ) (v t least : ℕ) (s : List ℕ) → Ascends 0 v b → v < 99 → 0 < t → least < choose v t
+pub IsFirstFrom-without : (b : List ℕ) (v t least : ℕ) (s : List ℕ) → Ascends 0 v b → v < 99 → 0 < t
+    → least < choose v t
     → IsFirstFrom b t least s → IsFirstFrom (b ++ v ∷ []) t least s
 IsFirstFrom-without b v t least s k below some before h = record {
   subset = IsSubset-widen b v t s h.subset;
@@ -92,7 +103,8 @@ IsFirstFrom-without b v t least s k below some before h = record {
       (λ r inside reaches. omega (arith, rank-subset_below b v t s k h.subset, rank-subset_push b v t r some inside));
 }
 
-pub IsFirstFrom-with : (b : List ℕ) (v t least rest : ℕ) (s : List ℕ) → Ascends 0 v b → v < 99 → 0 < t → rest ≡ least - choose v t → NoneFrom b t least
+pub IsFirstFrom-with : (b : List ℕ) (v t least rest : ℕ) (s : List ℕ) → Ascends 0 v b → v < 99 → 0 < t
+    → rest ≡ least - choose v t → NoneFrom b t least
     → IsFirstFrom b (t - 1) rest s → IsFirstFrom (b ++ v ∷ []) t least (s ++ v ∷ [])
 IsFirstFrom-with b v t least rest s k below some left none h =
     let rank = rank-subset_push b v t s some h.subset in
@@ -106,7 +118,8 @@ IsFirstFrom-with b v t least rest s k below some left none h =
           omega (arith, rank, later, h.first r inside (omega (arith, later, reaches))));
     }
 
-pub NoneFrom-with : (b : List ℕ) (v t least rest : ℕ) → Ascends 0 v b → v < 99 → 0 < t → rest ≡ least - choose v t → NoneFrom b t least
+pub NoneFrom-with : (b : List ℕ) (v t least rest : ℕ) → Ascends 0 v b → v < 99 → 0 < t → rest ≡ least - choose v t
+    → NoneFrom b t least
     → NoneFrom b (t - 1) rest → NoneFrom (b ++ v ∷ []) t least
 NoneFrom-with b v t least rest k below some left none h =
     subset_cases b v t (λ r. rank_of r < least) k below some none
@@ -118,7 +131,8 @@ pub record IsLastOf (b : List ℕ) (n v : ℕ) : Type 0 where
   pub others : Ascends 0 v (take (n - 1) b)
   pub below : v < 99
 
-pub IsLastOf-from_place : (b : List ℕ) (n v : ℕ) → Ascends 0 99 b → 0 < n → n ≤ length b → v ≡ get_or b (n - 1) 0 → IsLastOf b n v
+pub IsLastOf-from_place : (b : List ℕ) (n v : ℕ) → Ascends 0 99 b → 0 < n → n ≤ length b → v ≡ get_or b (n - 1) 0
+    → IsLastOf b n v
 IsLastOf-from_place b n v k some within is = record {
   split = take-by_last b n some within ∙ ap (λ p. take (n - 1) b ++ p ∷ []) (sym is);
   others = subst (λ p. Ascends 0 p (take (n - 1) b)) (sym is) (Ascends-before 0 99 b (n - 1) k (omega arith));

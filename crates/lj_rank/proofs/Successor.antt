@@ -1,5 +1,6 @@
 -- The next set: the first run of points gives way to the lowest points, and the point after the run's last.
-use Rattle.std.proofs.Common.{◌≡◌, ℕ, zero, suc, ◌+◌, ◌-◌, ◌<◌, ◌≤◌, ⊎_elim, List, [], ◌∷◌, ◌++◌, length, drop, get_or, ap, ◌∙◌, arith, length-append, length-drop}
+use Rattle.std.proofs.Common.{◌≡◌, ℕ, zero, suc, ◌+◌, ◌-◌, ◌<◌, ◌≤◌, ⊎_elim, List, [], ◌∷◌, ◌++◌, length, drop, get_or}
+use Rattle.std.proofs.Common.{ap, ◌∙◌, arith, length-append, length-drop}
 use Rattle.std.proofs.lemmas.Bool.{cases_lt}
 use Rattle.std.proofs.lemmas.List.{length_push, drop_all}
 use Rattle.lj_base.specs.Blocks.{Ascends, IsBlock}
@@ -31,15 +32,18 @@ rank-run j a (suc m) (x ∷ xs) within run =
     omega (arith, counts, rest, left, right)
 
 -- the rank, by the run
-rank-by_run : (s : List ℕ) (m : ℕ) → IsFirstRun s m → rank_of s + 1 ≡ choose (get_or s (m - 1) 0 + 1) m + rank_from (1 + m) (drop m s)
+rank-by_run : (s : List ℕ) (m : ℕ) → IsFirstRun s m
+    → rank_of s + 1 ≡ choose (get_or s (m - 1) 0 + 1) m + rank_from (1 + m) (drop m s)
 rank-by_run s m h =
-    let raised : get_or s 0 0 + m ≡ get_or s (m - 1) 0 + 1 = omega (arith, h.run (m - 1) (omega (arith, h.some)), h.some) in
+    let raised : get_or s 0 0 + m ≡ get_or s (m - 1) 0 + 1 =
+    omega (arith, h.run (m - 1) (omega (arith, h.some)), h.some) in
     let from_zero : 0 + m ≡ m = omega arith in
     let left = ap (λ n. choose n (0 + m)) raised ∙ ap (choose (get_or s (m - 1) 0 + 1)) from_zero in
     omega (arith, rank-run 0 (get_or s 0 0) m s h.within h.run, left)
 
 -- a set whose last point is v - 1 and whose points all follow each other is the last one
-pub rank-last : (v : ℕ) (s : List ℕ) (m : ℕ) → Ascends 0 v s → IsFirstRun s m → get_or s (m - 1) 0 + 1 ≡ v → rank_of s + 1 ≡ choose v (length s)
+pub rank-last : (v : ℕ) (s : List ℕ) (m : ℕ) → Ascends 0 v s → IsFirstRun s m → get_or s (m - 1) 0 + 1 ≡ v
+    → rank_of s + 1 ≡ choose v (length s)
 rank-last v s m ascends h top =
     let whole : m ≡ length s =
     ⊎_elim
@@ -55,7 +59,8 @@ lowest-rank n low all h =
     let count = ap (choose n) h.1 in
     omega (arith, rank-below n low h.0, all, count)
 
-pub rank-successor : (s : List ℕ) (m : ℕ) (low : List ℕ) → choose (m - 1) (m - 1) ≡ 1 → IsFirstRun s m → IsBlock (m - 1) (m - 1) low
+pub rank-successor : (s : List ℕ) (m : ℕ) (low : List ℕ) → choose (m - 1) (m - 1) ≡ 1 → IsFirstRun s m
+    → IsBlock (m - 1) (m - 1) low
     → rank_of ((low ++ (get_or s (m - 1) 0 + 1) ∷ []) ++ drop m s) ≡ rank_of s + 1
 rank-successor s m low all h lowest =
     let raised = get_or s (m - 1) 0 + 1 in
@@ -64,17 +69,22 @@ rank-successor s m low all h lowest =
     let count = ap (choose raised) places in
     let long : 1 + length (low ++ raised ∷ []) ≡ 1 + m = omega (arith, length_push low raised, places) in
     let back = ap (λ n. rank_from n (drop m s)) long in
-    omega (arith, rank_from-append 1 (low ++ raised ∷ []) (drop m s), rank-push low raised, lowest-rank (m - 1) low all lowest, count, back, rank-by_run s m h)
+    let whole = rank_from-append 1 (low ++ raised ∷ []) (drop m s) in
+    let front = rank-push low raised in
+    omega (arith, whole, front, lowest-rank (m - 1) low all lowest, count, back, rank-by_run s m h)
 
-pub IsBlock-successor : (v : ℕ) (s : List ℕ) (m : ℕ) (low : List ℕ) → Ascends 0 v s → IsFirstRun s m → IsBlock (m - 1) (m - 1) low → get_or s (m - 1) 0 + 1 < v
+pub IsBlock-successor : (v : ℕ) (s : List ℕ) (m : ℕ) (low : List ℕ) → Ascends 0 v s → IsFirstRun s m
+    → IsBlock (m - 1) (m - 1) low → get_or s (m - 1) 0 + 1 < v
     → IsBlock v (length s) ((low ++ (get_or s (m - 1) 0 + 1) ∷ []) ++ drop m s)
 IsBlock-successor v s m low ascends h lowest below =
     let raised = get_or s (m - 1) 0 + 1 in
     let some = h.some in
     let within = h.within in
-    let low_below = Ascends-wider 0 0 (m - 1) raised low (omega arith) (omega (arith, h.run (m - 1) (omega (arith, some)))) lowest.0 in
+    let low_below =
+    Ascends-wider 0 0 (m - 1) raised low (omega arith) (omega (arith, h.run (m - 1) (omega (arith, some)))) lowest.0 in
     let front = Ascends-push 0 raised (raised + 1) low (omega arith) (omega arith) low_below in
-    let back = Ascends-drop 0 v (raised + 1) s m ascends (λ inside. omega (arith, h.gap inside)) in (
+    let back = Ascends-drop 0 v (raised + 1) s m ascends (λ inside. omega (arith, h.gap inside)) in
+    let long = length-append (low ++ raised ∷ []) (drop m s) in (
       Ascends-append 0 (raised + 1) v (low ++ raised ∷ []) (drop m s) (omega arith) (omega arith) front back,
-      omega (arith, length-append (low ++ raised ∷ []) (drop m s), length_push low raised, length-drop m s, lowest.1, some, within),
+      omega (arith, long, length_push low raised, length-drop m s, lowest.1, some, within),
     )

@@ -1,5 +1,6 @@
 -- The rank of a set: how many sets of as many points stand before it in colexicographic order.
-use Rattle.std.specs.Prelude.{◌≡◌, ◌≤◌, ◌<◌, ℕ, suc, ◌+◌, ◌-◌, Some, List, [], ◌∷◌, ◌++◌, length, slice_get, slice_index}
+use Rattle.std.specs.Prelude.{◌≡◌, ◌≤◌, ◌<◌, ℕ, suc, ◌+◌, ◌-◌, Some, List, [], ◌∷◌, ◌++◌, length, slice_get}
+use Rattle.std.specs.Prelude.{slice_index}
 use Rattle.lj_base.specs.Blocks.{IsBlock, Within}
 use Rattle.lj_base.specs.Colex.{choose, sets}
 

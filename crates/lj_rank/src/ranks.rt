@@ -1,4 +1,5 @@
-ghost use Rattle.std.specs.Prelude.{◌≡◌, ◌+◌, ◌-◌, ◌<◌, ◌≤◌, ◌↔◌, ℕ, ◌++◌, drop, take, length, slice_get, Some, IfNone, IfSome, IsTrue};
+ghost use Rattle.std.specs.Prelude.{◌≡◌, ◌+◌, ◌-◌, ◌<◌, ◌≤◌, ◌↔◌, ℕ, ◌++◌, drop, take, length, slice_get, Some, IfNone};
+ghost use Rattle.std.specs.Prelude.{IfSome, IsTrue};
 ghost use Rattle.std.specs.Bool.{OnFalse, OnTrue};
 ghost use Rattle.lj_base.specs.Blocks.{Ascends, IsBlock};
 ghost use Rattle.lj_base.specs.Colex.{choose, sets};
@@ -7,7 +8,7 @@ ghost use Rattle.lj_rank.specs.Ranks.{IsFirstFrom, IsFirstRun, IsSubset, rank_of
 use crate::sets::TSet;
 use lj_base::{Block, binom, choose_law};
 
-/// How many sets of as many points stand before this one. Cost: one binomial for each point.
+/// The number of sets of as many points that stand before this one. Cost: one binomial for each point.
 pub fn rank(set: &TSet) -> u64
     ensures sum { result ≡ rank_of set.now }
     ensures place { (v : ℕ) → Ascends 0 v set.now → slice_get (sets v (length set.now)) result ≡ Some set.now }
@@ -41,7 +42,7 @@ pub fn unrank(v: u64, t: u64, r: u64) -> TSet
     set
 }
 
-/// Makes the set the next one of as many points below `v`. False, and the set stays, where it is the last.
+/// Makes the set the next one of as many points below `v`. Returns false, and the set stays, where it is the last.
 /// Cost: a few steps for each point of the set.
 pub fn next(v: u64, set: &mut TSet) -> bool
     requires few_points { v ≤ 99 }
@@ -76,7 +77,7 @@ pub fn seek(block: &Block, t: u64, least: u64) -> Option<TSet>
     seek_among(block, block.len(), t, least)
 }
 
-// The same among the block's first `n` points. The sets without the last of these points stand before those with it.
+// `seek` among the block's first `n` points. The sets without the last of these points stand before those with it.
 fn seek_among(block: &Block, n: u64, t: u64, least: u64) -> Option<TSet>
     requires small { t ≤ 8 }
     requires within { n ≤ length block.now }
@@ -106,7 +107,7 @@ fn seek_among(block: &Block, n: u64, t: u64, least: u64) -> Option<TSet>
     Some(set)
 }
 
-// How many points from the first on follow each other without a gap.
+// The number of points from the first on that follow each other without a gap.
 fn first_run(set: &TSet) -> u64
     requires { 0 < length set.now }
     ensures { IsFirstRun set.now result }

@@ -21,8 +21,10 @@ block : (t : _) (c : goal.After-push t) → IsBlock c.args.v c.args.t c.push.new
 block t c =
     let front = c.unrank-set.ensures.block in
     let greatest = c.loop-greatest.greatest in
-    subst (IsBlock c.args.v c.args.t) (sym c.push.ensures)
-    (Ascends-push 0 greatest c.args.v c.unrank-set.result (omega arith) (omega arith) front.0, omega (arith, length_push c.unrank-set.result greatest, front.1))
+    subst (IsBlock c.args.v c.args.t) (sym c.push.ensures) (
+      Ascends-push 0 greatest c.args.v c.unrank-set.result (omega arith) (omega arith) front.0,
+      omega (arith, length_push c.unrank-set.result greatest, front.1),
+    )
 
 rank : (t : _) (c : goal.After-push t) → rank_of c.push.new.self ≡ c.args.r
 rank t c =

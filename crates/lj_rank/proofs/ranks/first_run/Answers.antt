@@ -9,6 +9,7 @@ returns-else-at c = record {
   run = c.loop-run.invariant.run;
   gap = λ inside.
       let some = c.loop-run.invariant.some in
-      let higher = Ascends-get_or_lt 0 99 c.args.set.now (c.loop-run.run - 1) c.loop-run.run c.len-len.ensures.ascends (omega arith) inside in
+      let run = c.loop-run.run in
+      let higher = Ascends-get_or_lt 0 99 c.args.set.now (run - 1) run c.len-len.ensures.ascends (omega arith) inside in
       omega arith;
 }

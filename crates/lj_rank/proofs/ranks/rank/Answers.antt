@@ -27,5 +27,6 @@ loop-i-preserved c =
 pub returns-clause-place : goal.returns-clause-place
 returns-clause-place c v ascends =
     let s = c.args.set.now in
-    let whole : rank_of s ≡ c.loop-i.sum = sym (c.loop-i.invariant ∙ ap rank_of (take_all c.loop-i.i s (omega arith))) in
+    let whole : rank_of s ≡ c.loop-i.sum =
+    sym (c.loop-i.invariant ∙ ap rank_of (take_all c.loop-i.i s (omega arith))) in
     sets-place v (length s) c.loop-i.sum s (ascends, refl) whole

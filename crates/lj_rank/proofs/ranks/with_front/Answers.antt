@@ -16,7 +16,8 @@ push-requires-clause-greatest c =
     let i = c.loop-i.i in
     let within : i - n < length (drop n s) = omega (arith, length-drop n s) in
     let back : n + (i - n) ≡ i = omega arith in
-    let point : get_or (drop n s) (i - n) 0 ≡ c.at.result = get_or-drop n s (i - n) 0 ∙ ap (λ m. get_or s m 0) back ∙ sym c.at.ensures in
+    let point : get_or (drop n s) (i - n) 0 ≡ c.at.result =
+    get_or-drop n s (i - n) 0 ∙ ap (λ m. get_or s m 0) back ∙ sym c.at.ensures in
     subst (AllBelow c.at.result) (sym c.loop-i.invariant)
     (subst (λ p. AllBelow p (c.args.front ++ take (i - n) (drop n s))) point
     (AllBelow-before 0 99 c.args.front (drop n s) (i - n) c.requires.ascends within))

@@ -7,7 +7,8 @@ use Rattle.lj_bitmap.proofs.maps.RankMap.mark.Goals as goal
 
 pub index_mut-requires : goal.index_mut-requires
 index_mut-requires c =
-    omega (arith, c.requires, length-marks_of c.self.inside.words.items c.self.inside.len, ap length c.self.view_is, c.self.invariant.0)
+    let count = length-marks_of c.self.inside.words.items c.self.inside.len in
+    omega (arith, c.requires, count, ap length c.self.view_is, c.self.invariant.0)
 
 pub returns : goal.returns
 returns c =
@@ -17,5 +18,6 @@ returns c =
     let below : r < n = omega (arith, c.requires, length-marks_of words n, ap length c.self.view_is) in
     let inside : r / 64 < length words = omega (arith, below, c.self.invariant.0) in
     let word = get_or_read words (r / 64) c.index_mut.result.now inside c.index_mut.ensures.value 0 in
-    ap (λ w. marks_of (set words (r / 64) (bit_or w (1 * 2 ^ (r % 64) % 2 ^ 64))) n) word ∙ marks_of-set words n r inside below
+    ap (λ w. marks_of (set words (r / 64) (bit_or w (1 * 2 ^ (r % 64) % 2 ^ 64))) n) word
+    ∙ marks_of-set words n r inside below
     ∙ ap (λ marks. set marks r true) c.self.view_is

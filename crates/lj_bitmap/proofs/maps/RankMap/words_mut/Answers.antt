@@ -8,11 +8,18 @@ returns c =
     let words = c.self.inside.words.items in
     let n = c.self.inside.len in
     let count : n ≡ length c.args.self.now = sym (length-marks_of words n) ∙ ap length c.self.view_is in (
-      (refl, λ ws. marks_of-written words ws n c.self.inside.words.len (omega (arith, c.self.invariant.0)) ∙ ap (λ marks. overwritten marks ws) c.self.view_is),
+      (
+        refl,
+        λ ws.
+            marks_of-written words ws n c.self.inside.words.len (omega (arith, c.self.invariant.0))
+            ∙ ap (λ marks. overwritten marks ws) c.self.view_is,
+      ),
       record {
         writes_back = tt;
         count = omega (arith, ap length c.as_mut_slice.ensures.value, c.self.invariant.0, count);
-        value = ap (λ k. marks_of c.as_mut_slice.result.now k) (sym count) ∙ ap (λ ws. marks_of ws n) c.as_mut_slice.ensures.value ∙ c.self.view_is;
+        value =
+            ap (λ k. marks_of c.as_mut_slice.result.now k) (sym count)
+            ∙ ap (λ ws. marks_of ws n) c.as_mut_slice.ensures.value ∙ c.self.view_is;
         whole = overwritten-whole c.args.self.now;
       },
     )
