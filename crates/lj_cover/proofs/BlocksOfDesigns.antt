@@ -27,10 +27,12 @@ pub block_read : (v k t i : ℕ) (bs : List (List ℕ)) (b : List ℕ) → i < l
     → Covers bs (triple v k t) → IsBlock v k b
 block_read v k t i bs b inside is h = subst (IsBlock v k) (sym is) (block_at v k bs i b inside h.blocks)
 
--- what was made of all blocks
-pub all_made : (f : List (List ℕ) → List (List ℕ)) (c : Triple) (items bs : List (List ℕ)) (i : ℕ) → length bs ≤ i
-    → items ≡ f (take i bs) → Covers (f bs) c → Covers items c
-all_made f c items bs i done is h = subst (λ cs. Covers cs c) (sym (is ∙ ap f (take_all i bs done))) h
+-- what was made of all blocks of a design covers the cell that is made of the design's
+pub made_covers : (f : List (List ℕ) → List (List ℕ)) (to : Triple → Triple) (old c new : Triple)
+    (made items bs : List (List ℕ)) (i : ℕ) → length items ≤ i → made ≡ f (take i items) → items ≡ bs
+    → new ≡ to c → c ≡ old → Covers (f bs) (to old) → Covers made new
+made_covers f to old c new made items bs i done is same new_is c_is h =
+    subst₂ Covers (sym (is ∙ ap f (take_all i items done ∙ same))) (sym (new_is ∙ ap to c_is)) h
 
 pub dropped_covers : (v k t : ℕ) (bs : List (List ℕ)) → k < v → Covers bs (triple v k t)
     → Covers (drop_blocks (v - 1) bs) (triple (v - 1) k t)

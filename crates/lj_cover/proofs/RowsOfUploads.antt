@@ -1,5 +1,6 @@
 -- The rows at a cell are those of the uploads that have one, each with its upload's place.
 use Rattle.std.proofs.Common.{◌≡◌, ℕ, zero, suc, ◌+◌, ◌<◌, ◌≤◌, ◌↔◌, ◌⊎◌, Bool, true, false, cond, eqb, leb, Some, List}
+use Rattle.std.proofs.Common.{ap₂}
 use Rattle.std.proofs.Common.{[], ◌∷◌, ◌++◌, length, map, get_or, slice_get, refl, sym, ap, ◌∙◌, subst, subst₂, inl}
 use Rattle.std.proofs.Common.{inr, arith, ⊎_elim}
 use Rattle.std.proofs.lemmas.Bool.{and_from, and_parts, cond_both, cond-true, eq-eqb, eqb-true, le-leb, leb-true}
@@ -169,3 +170,45 @@ pub rows_of_more : (uploads others : List Upload) (c : Triple)
 rows_of_more uploads others c =
     let count : 0 + length uploads ≡ length uploads = omega arith in
     rows_split 0 uploads others c ∙ ap (λ m. rows_at uploads c ++ rows_from m others c) count
+
+-- the rows are one list: those with the same members, in the order of their places, are equal
+abbrev places : List Row → List ℕ
+places rows = map (λ (r : Row). r.upload) rows
+
+place_from : (lo v : ℕ) (rows : List Row) (r : Row) → Ascends lo v (places rows) → Contains rows r → lo ≤ r.upload
+place_from lo v [] r h has = absurd (omega (arith, has.1))
+place_from lo v (x ∷ xs) r h has =
+    ⊎_elim (λ same. omega (arith, h.0, ap (λ (q : Row). q.upload) same))
+    (λ later. let above = place_from (suc x.upload) v xs r h.2 later in omega (arith, h.0))
+    (Contains-cases x r xs has)
+
+same_rows : (lo v : ℕ) (xs ys : List Row) → Ascends lo v (places xs) → Ascends lo v (places ys)
+    → ((r : Row) → Contains xs r → Contains ys r) → ((r : Row) → Contains ys r → Contains xs r) → xs ≡ ys
+same_rows lo v [] [] h k into back = refl
+same_rows lo v [] (y ∷ ys) h k into back = absurd (omega (arith, (back y (Contains-first y ys)).1))
+same_rows lo v (x ∷ xs) [] h k into back = absurd (omega (arith, (into x (Contains-first x xs)).1))
+same_rows lo v (x ∷ xs) (y ∷ ys) h k into back =
+    let first : x ≡ y =
+    ⊎_elim (λ same. sym same)
+    (λ after. ⊎_elim (λ same. same)
+    (λ other. absurd (omega (arith, place_from (suc y.upload) v ys x k.2 after, place_from (suc x.upload) v xs y h.2 other)))
+    (Contains-cases x y xs (back y (Contains-first y ys))))
+    (Contains-cases y x ys (into x (Contains-first x xs))) in
+    let place = ap (λ (q : Row). q.upload) first in
+    let rest : xs ≡ ys = same_rows (suc x.upload) v xs ys h.2
+    (subst (λ m. Ascends (suc m) v (places ys)) (sym place) k.2)
+    (λ r has. ⊎_elim
+    (λ same. absurd (omega (arith, place_from (suc x.upload) v xs r h.2 has, ap (λ (q : Row). q.upload) same, place)))
+    (λ later. later) (Contains-cases y r ys (into r (Contains-later x r xs has))))
+    (λ r has. ⊎_elim
+    (λ same. absurd (omega (arith, place_from (suc y.upload) v ys r k.2 has, ap (λ (q : Row). q.upload) same, place)))
+    (λ later. later) (Contains-cases x r xs (back r (Contains-later y r ys has)))) in
+    ap₂ (λ a bs. a ∷ bs) first rest
+
+pub rows_are_one : (uploads : List Upload) (c : Triple) (rows : List Row)
+    → ((r : Row) → Contains rows r ↔ IsRowOf uploads c r) → Ascends 0 (length uploads) (places rows)
+    → rows ≡ rows_at uploads c
+rows_are_one uploads c rows are ascend =
+    same_rows 0 (length uploads) rows (rows_at uploads c) ascend (places_ascend uploads c)
+    (λ r has. (rows_are_of_uploads uploads c r).1 ((are r).0 has))
+    (λ r has. (are r).1 ((rows_are_of_uploads uploads c r).0 has))

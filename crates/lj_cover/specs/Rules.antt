@@ -80,6 +80,10 @@ rule_cell (Induced u w k) = triple w k u.cell.t
 abbrev pub part_cells : Triple → ℕ → Part → List Triple
 part_cells c v1 p = triple v1 p.l p.b ∷ triple (c.v - v1) (c.k - p.l) (c.t - p.a) ∷ []
 
+-- the cells of an induced rule's children: one for each size above k of the blocks' cuts to the points below w
+abbrev pub cut_cells : ℕ → ℕ → ℕ → List (List ℕ) → List Triple
+cut_cells t k w bs = map (λ l. triple l k t) (cut_sizes k w bs)
+
 -- the cells of the rule's children
 abbrev pub rule_children : Rule → List Triple
 rule_children (Drop c) = triple (c.v + 1) c.k c.t ∷ []
@@ -87,7 +91,7 @@ rule_children (Add c) = triple (c.v - 1) (c.k - 1) c.t ∷ []
 rule_children (Grow c) = triple c.v (c.k - 1) c.t ∷ []
 rule_children (Lower c) = triple c.v c.k (c.t + 1) ∷ []
 rule_children (Product c v1 parts) = flat_map (part_cells c v1) parts
-rule_children (Induced u w k) = map (λ l. triple l k u.cell.t) (cut_sizes k w u.blocks)
+rule_children (Induced u w k) = cut_cells u.cell.t k w u.blocks
 rule_children _ = []
 
 -- the parts follow each other and serve each number from lo to hi once

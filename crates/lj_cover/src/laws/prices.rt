@@ -4,11 +4,10 @@ ghost use Rattle.lj_base.specs.Blocks.{AreBlocks, Ascends};
 ghost use Rattle.lj_base.specs.Cells.{IsCell, Triple};
 ghost use Rattle.lj_base.specs.Frames.{InFrame, Top};
 ghost use Rattle.lj_base.specs.declared.Row.{Row};
-ghost use Rattle.lj_cover.specs.BlockLists.{cut_sizes};
 ghost use Rattle.lj_cover.specs.Derivations.{DerivableIn};
 ghost use Rattle.lj_cover.specs.Instances.{AreUploads, IsInstance, IsRowOf, ReadSomewhere, Reads, counts_at};
 ghost use Rattle.lj_cover.specs.Instances.{cut_counts, has_row, price, row_price, rows_at, rows_from};
-ghost use Rattle.lj_cover.specs.Rules.{Condition, Induced, Rule, Upload, rule_children, rule_cost, triple};
+ghost use Rattle.lj_cover.specs.Rules.{Condition, Induced, Rule, Upload, cut_cells, rule_children, rule_cost, triple};
 
 /// The price of an induced instance depends on its upload by the row alone.
 pub fn price_by_row()
@@ -43,15 +42,19 @@ pub fn induced_has_instances()
     ensures instance { (frame : Top) (uploads : List Upload) (c : Triple) (u : Upload) → InFrame frame c
         → Contains uploads u → u.cell.t ≡ c.t → c.v ≤ u.cell.v → IsInstance frame uploads c (Induced u c.v c.k) }
     ensures children { (frame : Top) (c : Triple) (bs : List (List ℕ)) → InFrame frame c
-        → AllByRecursion (InFrame frame) (map (λ l. triple l c.k c.t) (cut_sizes c.k c.v bs)) }
+        → AllByRecursion (InFrame frame) (cut_cells c.t c.k c.v bs) }
 {}
 
 /// The rows at a cell are those of the uploads that have one there: each has its upload's place, and the places ascend.
+/// No other list is so.
 pub fn rows_are_of_uploads()
     ensures rows { (uploads : List Upload) (c : Triple) (r : Row)
         → Contains (rows_at uploads c) r ↔ IsRowOf uploads c r }
     ensures places { (uploads : List Upload) (c : Triple)
         → Ascends 0 (length uploads) (map (λ (r : Row). r.upload) (rows_at uploads c)) }
+    ensures one { (uploads : List Upload) (c : Triple) (rows : List Row)
+        → ((r : Row) → Contains rows r ↔ IsRowOf uploads c r)
+        → Ascends 0 (length uploads) (map (λ (r : Row). r.upload) rows) → rows ≡ rows_at uploads c }
     ensures counts { (uploads : List Upload) (c : Triple)
         → counts_at uploads c ≡ map (λ (u : Upload). cut_counts c.v u.blocks) (filter (has_row c) uploads) }
     ensures more { (uploads others : List Upload) (c : Triple)

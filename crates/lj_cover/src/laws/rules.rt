@@ -3,12 +3,13 @@ ghost use Rattle.std.specs.List.{AllByRecursion, AllZip, flat_map, sum_by};
 ghost use Rattle.lj_base.specs.Blocks.{Covers};
 ghost use Rattle.lj_base.specs.Cells.{Triple};
 ghost use Rattle.lj_base.specs.Colex.{choose, sets};
-ghost use Rattle.lj_cover.specs.BlockLists.{add_blocks, ceil_div, cut_sizes, derived_blocks, derived2_blocks};
+ghost use Rattle.lj_cover.specs.BlockLists.{add_blocks, ceil_div, derived_blocks, derived2_blocks};
 ghost use Rattle.lj_cover.specs.BlockLists.{drop_blocks, grow_blocks, induced_blocks, one_block, product_blocks};
 ghost use Rattle.lj_cover.specs.BlockLists.{run_blocks};
 ghost use Rattle.lj_cover.specs.Derivations.{IsSound};
 ghost use Rattle.lj_cover.specs.Instances.{IsStep};
-ghost use Rattle.lj_cover.specs.Rules.{Chain, Part, Rule, Splits, part_cells, rule_blocks, rule_cell, rule_children};
+ghost use Rattle.lj_cover.specs.Rules.{Chain, Part, Rule, Splits, cut_cells, part_cells, rule_blocks, rule_cell};
+ghost use Rattle.lj_cover.specs.Rules.{rule_children};
 ghost use Rattle.lj_cover.specs.Rules.{rule_cost, triple};
 ghost use Rattle.lj_cover.specs.Sources.{IsBlockwise, gives, share, source};
 
@@ -75,7 +76,7 @@ pub fn product_covers()
 /// The cuts of a covering's blocks, brought to `k` points, cover where the lists for the larger cuts cover.
 pub fn induced_covers()
     ensures { (v m k w t : ℕ) (bs : List (List ℕ)) (lists : List (List (List ℕ))) → k ≤ w → w ≤ v
-        → Covers bs (triple v m t) → AllZip Covers lists (map (λ l. triple l k t) (cut_sizes k w bs))
+        → Covers bs (triple v m t) → AllZip Covers lists (cut_cells t k w bs)
         → Covers (induced_blocks t k w lists bs) (triple w k t) }
 {}
 

@@ -1,9 +1,9 @@
-use Rattle.std.proofs.Common.{◌∙◌, ◌++◌, ℕ, List, [], ◌∷◌, ap, arith, sym}
-use Rattle.lj_base.specs.Cells.{Triple}
+use Rattle.std.proofs.Common.{◌∙◌, ◌-◌, ◌++◌, ℕ, List, [], ◌∷◌, ap, arith, sym}
 use Rattle.lj_cover.specs.BlockLists.{derived2_blocks}
 use Rattle.lj_cover.specs.Operations.{has_both, without}
-use Rattle.lj_cover.proofs.BlocksOfDesigns.{all_made, covering, kept_no, kept_yes}
+use Rattle.lj_cover.proofs.BlocksOfDesigns.{kept_no, kept_yes, made_covers}
 use Rattle.lj_cover.proofs.DerivedRules.{derived2_covers}
+use Rattle.lj_cover.specs.Rules.{triple}
 use Rattle.lj_cover.proofs.constructions.derive2_design.Goals as goal
 use Rattle.lj_cover.proofs.constructions.derive2_design.Goals.{then-has_both, else-has_both}
 
@@ -34,12 +34,9 @@ loop-b-preserved c =
 
 pub of-requires : goal.of-requires
 of-requires c =
-    let cell = c.cell.inside in
-    let items = c.blocks-b-items.result.now in
-    let same = c.cell.view_is ∙ c.cell-cell.ensures in
-    let all = covering cell.v cell.k cell.t _ items _ same c.blocks-b-items.ensures.blocks
-    c.blocks-b-items.ensures.covers in
-    all_made (derived2_blocks c.args.x c.args.y) _ _ items c.loop-b.b-index c.loop-b-test.false c.loop-b.invariant.items
-    (derived2_covers cell.v cell.k cell.t c.args.x c.args.y items
-    (omega (arith, ap (λ (x : Triple). x.t) same)) c.requires.order
-    (omega (arith, ap (λ (x : Triple). x.v) same)) all)
+    let d = c.args.d.now in
+    made_covers (derived2_blocks c.args.x c.args.y) (λ e. triple (e.v - 2) (e.k - 2) (e.t - 2)) d.cell c.cell.result
+    c.derived.result c.loop-b.blocks.items c.blocks-b-items.result.now d.blocks c.loop-b.b-index
+    c.loop-b-test.false c.loop-b.invariant.items c.blocks-b-items.ensures.blocks c.derived.ensures c.cell.ensures
+    (derived2_covers d.cell.v d.cell.k d.cell.t c.args.x c.args.y d.blocks c.requires.sets c.requires.order
+    c.requires.inside c.blocks-b-items.ensures.covers)
