@@ -1,5 +1,6 @@
 pub mod Cutting
 pub mod Joined
+pub mod NumberLines
 pub mod Pieces
 pub mod PlainWords
 pub mod LineLaws

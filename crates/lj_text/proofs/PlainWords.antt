@@ -1,5 +1,5 @@
 -- Words without LF and CR: joined by spaces they are a plain line, whose words they are.
-use Rattle.std.proofs.Common.{◌≡◌, ◌≢◌, ℕ, ◌^◌, ◌<◌, ◌≤◌, false, eqb, List, [], ◌∷◌, ◌++◌, decimal, length, map}
+use Rattle.std.proofs.Common.{◌≡◌, ◌≢◌, ℕ, ◌^◌, ◌<◌, ◌≤◌, false, eqb, List, [], ◌∷◌, ◌++◌, decimal, map}
 use Rattle.std.proofs.Common.{refl, sym, ap, ◌∙◌, subst, arith, append-nil, length-append, ne_eqb}
 use Rattle.std.proofs.lemmas.Bool.{and_left, eqb-false, or_from, or_parts}
 use Rattle.std.proofs.lemmas.Fmt.{decimal_nonempty}
@@ -30,21 +30,25 @@ each_inner : (word : List ℕ) → list_any is_separator word ≡ false → AllB
 each_inner [] h = tt
 each_inner (b ∷ bs) h = let parts = or_parts _ _ h in (IsInner-free b parts.0, each_inner bs parts.1)
 
-none-each : (word : List ℕ) → AllByRecursion (λ byte. is_separator byte ≡ false) word → list_any is_separator word ≡ false
+none-each : (word : List ℕ) → AllByRecursion (λ byte. is_separator byte ≡ false) word
+    → list_any is_separator word ≡ false
 none-each [] h = refl
 none-each (b ∷ bs) h = or_from _ _ h.0 (none-each bs h.1)
 
 IsWord-plain : (word : List ℕ) → IsPlainWord word → IsWord word
 IsWord-plain word h =
-    (h.0, AllByRecursion-weaker IsInner (λ byte. is_blank byte ≡ false) word (λ byte inner. inner.no_blank) (each_inner word h.1))
+    let inner = each_inner word h.1 in
+    (h.0, AllByRecursion-weaker IsInner (λ byte. is_blank byte ≡ false) word (λ byte i. i.no_blank) inner)
 
 -- what holds of a space and of each byte that separates nothing holds of each byte of the line
-each_byte : (P : ℕ → Type 0) → P 32 → ((byte : ℕ) → IsInner byte → P byte) → (ws : List (List ℕ)) → AllByRecursion IsPlainWord ws
+each_byte : (P : ℕ → Type 0) → P 32 → ((byte : ℕ) → IsInner byte → P byte) → (ws : List (List ℕ))
+    → AllByRecursion IsPlainWord ws
     → AllByRecursion P (join_by_space ws)
 each_byte P space each [] h = tt
 each_byte P space each (w ∷ []) h = AllByRecursion-weaker IsInner P w each (each_inner w h.0.1)
 each_byte P space each (w ∷ (v ∷ ws)) h =
-    AllByRecursion-append P w (32 ∷ join_by_space (v ∷ ws)) (AllByRecursion-weaker IsInner P w each (each_inner w h.0.1))
+    AllByRecursion-append P w (32 ∷ join_by_space (v ∷ ws))
+    (AllByRecursion-weaker IsInner P w each (each_inner w h.0.1))
     (space, each_byte P space each (v ∷ ws) h.1)
 
 -- ---- the line
@@ -58,7 +62,8 @@ not_blank-append : (word rest : List ℕ) → IsWord word → list_all is_blank 
 not_blank-append [] rest h = absurd (omega (arith, h.0))
 not_blank-append (b ∷ bs) rest h = and_left _ _ h.1.0
 
-not_blank-join : (word : List ℕ) (ws : List (List ℕ)) → IsWord word → list_all is_blank (join_by_space (word ∷ ws)) ≡ false
+not_blank-join : (word : List ℕ) (ws : List (List ℕ)) → IsWord word
+    → list_all is_blank (join_by_space (word ∷ ws)) ≡ false
 not_blank-join word [] h = subst (λ l. list_all is_blank l ≡ false) (append-nil word) (not_blank-append word [] h)
 not_blank-join word (v ∷ ws) h = not_blank-append word (32 ∷ join_by_space (v ∷ ws)) h
 
@@ -76,17 +81,20 @@ words_of-join ws h = tokens_of-join ws (AllByRecursion-weaker IsPlainWord IsWord
 
 -- ---- lines of plain words
 
-map-words_of : (lines : List (List (List ℕ))) → AllByRecursion ArePlainWords lines → map words_of (map join_by_space lines) ≡ lines
+map-words_of : (lines : List (List (List ℕ))) → AllByRecursion ArePlainWords lines
+    → map words_of (map join_by_space lines) ≡ lines
 map-words_of [] h = refl
 map-words_of (ws ∷ lines) h =
-    ap (λ line. line ∷ map words_of (map join_by_space lines)) (words_of-join ws h.0.1) ∙ ap (λ rest. ws ∷ rest) (map-words_of lines h.1)
+    ap (λ line. line ∷ map words_of (map join_by_space lines)) (words_of-join ws h.0.1)
+    ∙ ap (λ rest. ws ∷ rest) (map-words_of lines h.1)
 
 pub words-feeds : (lines : List (List (List ℕ))) → AllByRecursion ArePlainWords lines
     → map (words (with_feeds (map join_by_space lines))) (text_lines (with_feeds (map join_by_space lines))) ≡ lines
 words-feeds lines h =
     let bytes = with_feeds (map join_by_space lines) in
     let plain = AllByRecursion-map ArePlainWords IsPlain join_by_space lines IsPlain-words h in
-    sym (map-map words_of (line_text bytes) (text_lines bytes)) ∙ ap (map words_of) (text_lines-feeds (map join_by_space lines) plain)
+    sym (map-map words_of (line_text bytes) (text_lines bytes))
+    ∙ ap (map words_of) (text_lines-feeds (map join_by_space lines) plain)
     ∙ map-words_of lines h
 
 -- ---- which words are plain
@@ -102,19 +110,14 @@ free_digit byte high =
 pub IsPlainWord-decimal : (n : ℕ) → n < 2 ^ 64 → IsPlainWord (decimal n)
 IsPlainWord-decimal n small = (decimal_nonempty n small, none-each (decimal n) (high-decimal _ free_digit n small))
 
-pub IsPlainWord-join : (byte : ℕ) → is_separator byte ≡ false → (ws : List (List ℕ)) → ArePlainWords ws → IsPlainWord (join_with_byte byte ws)
+pub IsPlainWord-join : (byte : ℕ) → is_separator byte ≡ false → (ws : List (List ℕ)) → ArePlainWords ws
+    → IsPlainWord (join_with_byte byte ws)
 IsPlainWord-join byte free [] h = absurd (omega (arith, h.0))
 IsPlainWord-join byte free (w ∷ []) h = h.1.0
 IsPlainWord-join byte free (w ∷ (v ∷ ws)) h =
     let rest = join_with_byte byte (v ∷ ws) in
     let more : IsPlainWord rest = IsPlainWord-join byte free (v ∷ ws) (omega arith, h.1.1) in
-    let first = h.1.0.0 in
-    (omega (arith, length-append w (byte ∷ rest), first), list_any-append is_separator w (byte ∷ rest) ∙ or_from _ _ h.1.0.1 (or_from _ _ free more.1))
-
--- numbers that are joined by spaces
-are_plain_numbers : (ns : List ℕ) → AllByRecursion (λ n. n < 2 ^ 64) ns → AllByRecursion IsPlainWord (map decimal ns)
-are_plain_numbers ns h = AllByRecursion-map (λ n. n < 2 ^ 64) IsPlainWord decimal ns IsPlainWord-decimal h
-
-pub IsPlain-numbers : (ns : List ℕ) → 1 ≤ length ns → AllByRecursion (λ n. n < 2 ^ 64) ns → IsPlain (join_by_space (map decimal ns))
-IsPlain-numbers [] some h = absurd (omega arith)
-IsPlain-numbers (n ∷ ns) some h = IsPlain-words (map decimal (n ∷ ns)) (omega arith, are_plain_numbers (n ∷ ns) h)
+    let first = h.1.0.0 in (
+      omega (arith, length-append w (byte ∷ rest), first),
+      list_any-append is_separator w (byte ∷ rest) ∙ or_from _ _ h.1.0.1 (or_from _ _ free more.1),
+    )

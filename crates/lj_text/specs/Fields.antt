@@ -1,5 +1,5 @@
 -- The fields of a line, as they are appended to a text.
-use Rattle.std.specs.Prelude.{◌≡◌, ℕ, suc, List, ◌∷◌, decimal, length, map, take}
+use Rattle.std.specs.Prelude.{◌≡◌, ℕ, suc, List, ◌∷◌, ◌++◌, decimal, length, map, take}
 use Rattle.std.specs.List.{flat_map}
 
 -- each field after the byte
@@ -9,6 +9,10 @@ after_each byte fields = flat_map (λ field. byte ∷ field) fields
 -- each field after a space (32)
 abbrev pub spaced : List (List ℕ) → List ℕ
 spaced fields = after_each 32 fields
+
+-- a word and, each after a space, numbers
+abbrev pub named : List ℕ → List ℕ → List ℕ
+named word numbers = word ++ spaced (map decimal numbers)
 
 -- each of the points, which are printed from 1, after a space
 abbrev pub points_text : List ℕ → List ℕ

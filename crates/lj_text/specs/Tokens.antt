@@ -1,5 +1,6 @@
 -- The tokens of a line: the longest runs of bytes that are no blanks.
-use Rattle.std.specs.Prelude.{◌≡◌, ℕ, suc, ◌+◌, ◌<◌, ◌≤◌, Bool, ◌||◌, ◌==◌, if◌then◌else◌, List, [], ◌∷◌, length, map, slice_range, IsFalse}
+use Rattle.std.specs.Prelude.{◌≡◌, ℕ, suc, ◌+◌, ◌<◌, ◌≤◌, Bool, ◌||◌, ◌==◌, if◌then◌else◌, List, [], ◌∷◌, length, map}
+use Rattle.std.specs.Prelude.{slice_range, IsFalse}
 use Rattle.std.specs.List.{AllByRecursion, join_with_byte, list_any}
 use Rattle.lj_text.specs.Lines.{is_blank, line_text}
 use Rattle.lj_text.specs.declared.lines.Line.{Line}
@@ -13,7 +14,8 @@ token_at start stop = record { column = suc start; start = start; stop = stop }
 abbrev pub with_byte : ℕ → List Token → List Token
 with_byte place [] = token_at place (suc place) ∷ []
 with_byte place (token ∷ tokens) =
-    if token.start == suc place then token_at place token.stop ∷ tokens else token_at place (suc place) ∷ (token ∷ tokens)
+    if token.start == suc place then token_at place token.stop ∷ tokens else token_at place (suc place) ∷
+    (token ∷ tokens)
 
 -- the tokens of bytes that begin at a place
 abbrev pub tokens_from : ℕ → List ℕ → List Token

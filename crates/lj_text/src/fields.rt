@@ -1,6 +1,6 @@
 ghost use Rattle.std.specs.Prelude.{◌≡◌, ◌≤◌, ◌∷◌, ◌++◌, decimal, length, map, take, OnErr, OnOk};
 ghost use Rattle.std.specs.List.{join_with_byte};
-ghost use Rattle.lj_text.specs.Fields.{Extends, after_each, spaced};
+ghost use Rattle.lj_text.specs.Fields.{Extends, after_each, named, spaced};
 
 use itoa::Buffer;
 use lj_base::Memory;
@@ -54,7 +54,7 @@ pub fn put_number_fields(out: &mut Vec<u8>, numbers: &[u64]) -> Result<(), Memor
 
 /// Appends a word and, each after a space, the numbers.
 pub fn put_named(out: &mut Vec<u8>, word: &[u8], numbers: &[u64]) -> Result<(), Memory>
-    ensures ok { OnOk result (out.new.items ≡ out.old.items ++ (word.now ++ spaced (map decimal numbers.now))) }
+    ensures ok { OnOk result (out.new.items ≡ out.old.items ++ named word.now numbers.now) }
     ensures err { OnErr result (out.new.items ≡ out.old.items) }
 {
     let start = out.len();
@@ -108,7 +108,7 @@ fn append_after(out: &mut Vec<u8>, byte: u8, numbers: &[u64]) -> Result<(), Memo
 
 // Appends a word and the numbers; where memory ran out the word may have been appended.
 fn append_named(out: &mut Vec<u8>, word: &[u8], numbers: &[u64]) -> Result<(), Memory>
-    ensures ok { OnOk result (out.new.items ≡ out.old.items ++ (word.now ++ spaced (map decimal numbers.now))) }
+    ensures ok { OnOk result (out.new.items ≡ out.old.items ++ named word.now numbers.now) }
     ensures err { OnErr result (Extends out.old.items out.new.items) }
 {
     put(out, word)?;

@@ -21,8 +21,8 @@ pub enum ReadFail {
 /// The most bytes that one read takes from a source.
 pub const PIECE: usize = 65536;
 
-/// Reads a source to its end, up to `limit` bytes. It stops at the first read that fails, and at the first that brings more
-/// than `limit` bytes together.
+/// Reads a source to its end, up to `limit` bytes. It stops at the first read that fails, and at the first after which
+/// it has more than `limit` bytes.
 pub fn read_all<S: Source>(alloc: Global, source: &mut S, limit: u64) -> Result<Vec<u8>, ReadFail>
     ensures bytes { IfOk result (λ bytes. IfSome (S.left source.old) (λ all. bytes.items ≡ all)) }
     ensures within { IfOk result (λ bytes. length bytes.items ≤ limit) }
@@ -31,7 +31,8 @@ pub fn read_all<S: Source>(alloc: Global, source: &mut S, limit: u64) -> Result<
     ensures read { IfOk result (λ bytes. HasRead (S.left source.old) (S.left source.new) bytes.items limit) }
 
     // Where not all was read: how much was, and why.
-    ensures cause { IfErr result (HasCause limit (S.left source.old) (S.left source.new) (S.faults source.old) (S.faults source.new)) }
+    ensures cause { IfErr result
+        (HasCause limit (S.left source.old) (S.left source.new) (S.faults source.old) (S.faults source.new)) }
 {
     let mut bytes = Vec::new(alloc);
     let mut piece = [0; PIECE];

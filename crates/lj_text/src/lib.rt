@@ -15,7 +15,10 @@ pub use fields::{
     put_number_fields,
 };
 pub use input::{PIECE, ReadFail, read_all};
-pub use laws::{decimal_law, fields_law, line_order_law, lines_law, tokens_law, words_law};
+pub use laws::{
+    decimal_law, fields_law, line_numbers_law, line_order_law, lines_law, number_line_law,
+    tokens_law, words_law,
+};
 pub use lines::{Line, Lines, after_line};
 pub use numbers::{NotNumber, number};
 pub use output::{WriteFault, write_all};

@@ -15,5 +15,7 @@ pub returns-clause-err : goal.returns-clause-err
 returns-clause-err c =
     let extended = c.append_after.new.out.items in
     on_err_weaker c.append_after.result
-    (λ kept. Extends-append c.args.out.now.items _ extended (subst (λ text. Extends text extended) c.in_ok-put_number.ensures.ok kept))
+    (λ kept.
+    Extends-append c.args.out.now.items _ extended
+    (subst (λ text. Extends text extended) c.in_ok-put_number.ensures.ok kept))
     c.append_after.ensures.err

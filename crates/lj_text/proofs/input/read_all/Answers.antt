@@ -7,7 +7,8 @@ returns-then-count-limit-clause-cause g c =
     let known = c.in-Ok.ensures in
     let before = c.loop-source.invariant in (
       known.quiet ∙ before.quiet,
-      HasExceeded-more _ _ _ c.loop-source.bytes.items _ c.in-Ok.count c.args.limit before.taken known.bytes known.count before.within
+      HasExceeded-more _ _ _ c.loop-source.bytes.items _ c.in-Ok.count c.args.limit before.taken known.bytes
+          known.count before.within
           (omega (arith, before.room)) (omega (arith, c.if-count-limit.true, c.len.ensures, before.within)),
     )
 
