@@ -1,4 +1,4 @@
--- Where the lines of a text of plain lines stand, and what they are.
+-- The places of the lines in a text of plain lines, and their texts.
 use Rattle.std.proofs.Common.{◌≡◌, ℕ, suc, ◌+◌, ◌-◌, ◌≤◌, List, [], ◌∷◌, ◌++◌, drop, length, take, refl, sym, ap, ap₂, ◌∙◌, arith, append_assoc, append-nil, length-append}
 use Rattle.std.proofs.Math.Nat.{min-eq_right}
 use Rattle.std.proofs.lemmas.List.{drop_at, take_at}
@@ -44,7 +44,7 @@ placed-texts (line ∷ lines) front back bytes number start at is =
       placed-texts lines (front ++ feed) back bytes (suc number) (start + length line + 1) place next,
     )
 
--- the text from behind a line up to a place
+-- the text from the end of a line up to a place
 text-between : (bytes front line middle back : List ℕ) (begin : Line) (place : ℕ) → bytes ≡ front ++ ((line ++ 10 ∷ []) ++ (middle ++ back)) → begin.stop ≡ length front + length line
     → place ≡ begin.stop + 1 + length middle → middle ≡ slice_range bytes (after_line bytes begin) place
 text-between bytes front line middle back begin place is stop to =
@@ -54,17 +54,17 @@ text-between bytes front line middle back begin place is stop to =
     let cut : drop begin.stop bytes ≡ 10 ∷ rest = ap (drop begin.stop) here ∙ drop_at (front ++ line) (10 ∷ rest) begin.stop size in
     let long : length bytes ≡ begin.stop + length (10 ∷ rest) = ap length here ∙ length-append (front ++ line) (10 ∷ rest) ∙ ap (λ n. n + length (10 ∷ rest)) size in
     let within : begin.stop + 0 + 1 ≤ length bytes = omega arith in
-    let behind : begin.stop + 0 + 1 ≡ begin.stop + 1 = omega arith in
-    let after : after_line bytes begin ≡ begin.stop + 1 = rw cut (min-eq_right within ∙ behind) in
+    let next : begin.stop + 0 + 1 ≡ begin.stop + 1 = omega arith in
+    let after : after_line bytes begin ≡ begin.stop + 1 = rw cut (min-eq_right within ∙ next) in
     let split : bytes ≡ ((front ++ line) ++ 10 ∷ []) ++ (middle ++ back) = here ∙ sym (append_assoc (front ++ line) (10 ∷ []) rest) in
     let count : begin.stop + 1 ≡ length ((front ++ line) ++ 10 ∷ []) = omega (arith, length-append (front ++ line) (10 ∷ []), size) in
     sym (ap (λ n. slice_range bytes n place) after ∙ piece ((front ++ line) ++ 10 ∷ []) middle back bytes (begin.stop + 1) place split count to)
 
--- the text from behind the third line up to a place
-pub text-behind_three : (a b c : List ℕ) (inner tail : List (List ℕ)) (bytes : List ℕ) (place : ℕ) → bytes ≡ with_feeds (a ∷ b ∷ c ∷ []) ++ (with_feeds inner ++ with_feeds tail)
+-- the text from the end of the third line up to a place
+pub text-after_three : (a b c : List ℕ) (inner tail : List (List ℕ)) (bytes : List ℕ) (place : ℕ) → bytes ≡ with_feeds (a ∷ b ∷ c ∷ []) ++ (with_feeds inner ++ with_feeds tail)
     → place ≡ length (with_feeds (a ∷ b ∷ c ∷ [])) + length (with_feeds inner)
     → with_feeds inner ≡ slice_range bytes (after_line bytes (record { number = 3; start = 0 + length a + 1 + length b + 1; stop = 0 + length a + 1 + length b + 1 + length c })) place
-text-behind_three a b c inner tail bytes place is to =
+text-after_three a b c inner tail bytes place is to =
     let front = with_feeds (a ∷ b ∷ []) in
     let feed : List ℕ = c ++ 10 ∷ [] in
     let rest = with_feeds inner ++ with_feeds tail in

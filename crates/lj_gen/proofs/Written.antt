@@ -8,7 +8,7 @@ use Rattle.lj_gen.specs.Generated.{cell_line, frame_cell, gen_text, head_lines, 
 use Rattle.lj_gen.specs.Quadruples.{completions, gen_blocks}
 use Rattle.lj_gen.proofs.Chosen.{completions-gen_blocks}
 
--- the lines before the blocks, those of the blocks, and those behind
+-- the lines before the blocks, those of the blocks, and those after them
 pub text-parts : (head inner tail : List (List ℕ)) → with_feeds (head ++ (inner ++ tail)) ≡ with_feeds head ++ (with_feeds inner ++ with_feeds tail)
 text-parts head inner tail =
     let feed : List ℕ → List ℕ = λ line. line ++ 10 ∷ [] in

@@ -1,4 +1,4 @@
-ghost use Rattle.std.specs.Prelude.{◌≡◌, ◌-◌, ◌*◌, ◌^◌, ◌≤◌, [], ◌∷◌, ◌++◌, IfOk, OnOk, decimal, length};
+ghost use Rattle.std.specs.Prelude.{◌≡◌, ◌-◌, ◌*◌, ◌^◌, ◌≤◌, [], ◌∷◌, ◌++◌, IfOk, OnOk, length};
 ghost use Rattle.std.specs.List.{AllPairs};
 ghost use Rattle.lj_base.specs.Blocks.{Covers};
 ghost use Rattle.lj_text.specs.Lines.{with_feeds};
@@ -10,7 +10,7 @@ ghost use Rattle.lj_gen.specs.Quadruples.{IsLexicographicallyBefore, gen_blocks}
 use crate::laws::{generated_law, quadruples_law};
 use crate::quadruples::put_quadruples;
 use lj_base::{Cell, Memory};
-use lj_text::{put, put_number};
+use lj_text::{fields_law, put, put_named};
 use std::alloc::Global;
 
 /// The script for `V = 2 ^ m` points: the frame `V K 3` with K the lesser of 6 and V, and one client, which uploads the
@@ -92,19 +92,9 @@ fn put_tail(v: u8, out: &mut Vec<u8>) -> Result<(), Memory>
 fn put_cell(word: &[u8], cell: Cell, out: &mut Vec<u8>) -> Result<(), Memory>
     ensures { OnOk result (out.new.items ≡ out.old.items ++ (cell_line word.now cell ++ 10 ∷ [])) }
 {
-    put(out, word)?;
-    put_after_space(cell.v, out)?;
-    put_after_space(cell.k, out)?;
-    put_after_space(cell.t, out)?;
+    fields_law();
+    put_named(out, word, &[u64::from(cell.v), u64::from(cell.k), u64::from(cell.t)])?;
     put(out, b"\n")
-}
-
-// Appends a space and a number.
-fn put_after_space(n: u8, out: &mut Vec<u8>) -> Result<(), Memory>
-    ensures { OnOk result (out.new.items ≡ out.old.items ++ 32 ∷ decimal n) }
-{
-    put(out, b" ")?;
-    put_number(out, u64::from(n))
 }
 
 #[cfg(test)]

@@ -6,10 +6,9 @@ use Rattle.std.proofs.lemmas.List.Kept.{AllPairs-cons}
 use Rattle.std.proofs.lemmas.List.{length-append}
 use Rattle.std.proofs.lemmas.List.FromFn.{length-map-range_with_len}
 use Rattle.std.specs.List.{AllByRecursion, AllPairs, Contains, flat_map, range_with_len}
+use Rattle.lj_base.proofs.Lists.{AllByRecursion-append, AllByRecursion-weaker, length-joined}
 use Rattle.lj_base.specs.Cells.{IsCell, Triple}
 use Rattle.lj_base.specs.Frames.{Top}
-use Rattle.lj_cover.proofs.Inducing.{AllByRecursion-weaker}
-use Rattle.lj_cover.proofs.Points.{AllByRecursion-append}
 use Rattle.lj_report.specs.ReportCells.{IsBefore, IsListed, cells_from_v, cells_from_k, cells_from_t, report_cells}
 
 -- ---- each listed cell
@@ -66,13 +65,6 @@ members f c cell = (
 
 -- ---- how many they are
 
-length-joined : {X : Type 0} (f : ℕ → List X) (a n most : ℕ) → ((i : ℕ) → a ≤ i → length (f i) ≤ most) → length (flat_map f (range_with_len a n)) ≤ n * most
-length-joined f a zero most each = omega arith
-length-joined f a (suc n) most each =
-    let first = each a (omega arith) in
-    let rest = length-joined f (a + 1) n most (λ i low. each i (omega arith)) in
-    omega (arith, length-append (f a) (flat_map f (range_with_len (a + 1) n)))
-
 pub few_listed : (f : Top) (t : ℕ) → IsCell f.top → 1 ≤ t → length (cells_from_t f t) ≤ 8 * (25 * 99)
 few_listed f t cell some =
     let row : (s k : ℕ) → length (cells_from_v f s k (suc k)) ≤ 99 = λ s k. omega (arith, length-map-range_with_len (λ v. let c : Triple = record { v = v; k = k; t = s } in c) (suc k) (suc f.top.v - suc k), cell) in
@@ -84,12 +76,12 @@ few_listed f t cell some =
 
 -- ---- their order
 
--- each item stands in this relation to each later one
+-- each item has this relation to each later one
 abbrev Ordered : {X : Type 0} → (X → X → Type 0) → List X → Type 0
 Ordered R [] = Unit {0}
 Ordered R (x ∷ xs) = AllByRecursion (R x) xs × Ordered R xs
 
--- each item of the first list stands in this relation to each of the second
+-- each item of the first list has this relation to each of the second
 abbrev Across : {X : Type 0} → (X → X → Type 0) → List X → List X → Type 0
 Across R xs ys = AllByRecursion (λ x. AllByRecursion (R x) ys) xs
 

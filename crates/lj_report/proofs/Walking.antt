@@ -1,4 +1,4 @@
--- The listed cells in order: the first one, and the one behind the last v of its k.
+-- The listed cells in order: the first one, and the one after the last v of its k.
 use Rattle.std.proofs.Common.{◌≡◌, ℕ, suc, ◌+◌, ◌-◌, ◌<◌, ◌≤◌, [], ◌∷◌, ◌++◌, Some, map, sym, ap, ap₂, ◌∙◌, arith, append_assoc}
 use Rattle.std.specs.List.{flat_map, range_with_len}
 use Rattle.lj_base.specs.Frames.{Top}

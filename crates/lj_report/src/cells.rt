@@ -52,7 +52,7 @@ impl Iterator for ReportCells {
     }
 }
 
-// The listed cell behind one.
+// The listed cell after one.
 fn after(frame: Frame, c: Cell) -> Option<Cell>
     requires { IsListed frame c }
     ensures listed { IfSome result (IsListed frame) }

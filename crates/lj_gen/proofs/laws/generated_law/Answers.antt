@@ -10,7 +10,8 @@ pub returns-clause-script : goal.returns-clause-script
 returns-clause-script c = λ m low high.
     let some = pow-low m low in
     let small = pow-high m high in
-    IsReadUpTo-lines c.decimal_law.ensures.word c.decimal_law.ensures.value c.tokens_law.ensures.words c.lines_law.ensures.numbers c.lines_law.ensures.places
+    IsReadUpTo-lines c.words_law.ensures.decimal c.decimal_law.ensures.value c.words_law.ensures.words
+    c.words_law.ensures.plain c.lines_law.ensures.places
     (2 ^ m) some (omega (arith, small)) (gen_blocks m) (AreBlocks-gen_blocks m)
 
 pub returns-clause-blocks : goal.returns-clause-blocks
