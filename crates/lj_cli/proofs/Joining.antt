@@ -1,5 +1,6 @@
--- What was given so far, joined with what the words behind give.
-use Rattle.std.proofs.Common.{◌≡◌, ◌⊎◌, ℕ, ◌+◌, List, [], ◌∷◌, ◌++◌, Option, None, Some, IfNone, IfSome, length, refl, sym, ap, ◌∙◌, subst, arith, inl, inr}
+-- What was given so far, joined with what the words after it give.
+use Rattle.std.proofs.Common.{◌≡◌, ◌⊎◌, ℕ, ◌+◌, List, [], ◌∷◌, ◌++◌, Option, None, Some, IfNone, IfSome, length, refl}
+use Rattle.std.proofs.Common.{sym, ap, ◌∙◌, subst, arith, inl, inr}
 use Rattle.std.proofs.lemmas.List.{append-nil, append_assoc, length-append}
 use Rattle.std.proofs.Common.{drop}
 use Rattle.std.specs.List.{slice_get}
@@ -8,9 +9,10 @@ use Rattle.std.proofs.Common.{codes}
 use Rattle.lj_cli.specs.GoodWords.{GoodWords, IsCheckCall}
 use Rattle.lj_cli.specs.declared.words.CheckCall.{CheckCall}
 use Rattle.lj_cli.specs.declared.given.Kind.{Kind}
-use Rattle.lj_cli.specs.Given.{Gift, IsFew, all_numbers, given_by, joined, kind_of, nothing, with_json, with_number, with_workers, word_gives}
+use Rattle.lj_cli.specs.Given.{Gift, IsFew, all_numbers, given_by, joined, kind_of, nothing, with_json, with_number}
+use Rattle.lj_cli.specs.Given.{with_workers, word_gives}
 
--- what a value behind --workers gives
+-- what a value after --workers gives
 abbrev pub valued : List (List ℕ) → Option Gift
 valued [] = None
 valued (next ∷ words) = with_workers (number_of next) (given_by words)
@@ -20,7 +22,7 @@ pub given_by-first : (word : List ℕ) (words : List (List ℕ))
 given_by-first word [] = refl
 given_by-first word (next ∷ words) = refl
 
--- the same by the word's kind, with what was given before
+-- by the word's kind, with what was given before
 pub joined-first : (g : Gift) (word : List ℕ) (words : List (List ℕ)) (kind : Kind) → kind ≡ kind_of word
     → joined g (given_by (word ∷ words)) ≡ joined g (word_gives kind word (all_numbers words) (given_by words) (valued words))
 joined-first g word words kind is =
@@ -84,14 +86,14 @@ json_refused g (Some h) full = λ few. omega (arith, few.2, full)
 abbrev pub IsRefused : Option Gift → Type 0
 IsRefused given = IfSome given (λ g. IsFew g → ⊥)
 
--- where the first word is refused no call takes the words, whatever else the answer says
+-- where the first word is refused no call takes the words, whatever else is returned
 pub refused : {T : Type 0} (g : Gift) (word : List ℕ) (words : List (List ℕ)) (kind : Kind) → kind ≡ kind_of word
     → IsRefused (joined g (word_gives kind word (all_numbers words) (given_by words) (valued words)))
-    → (answer : Option T) → IfNone answer (IsRefused (joined g (given_by (word ∷ words))))
+    → (returned : Option T) → IfNone returned (IsRefused (joined g (given_by (word ∷ words))))
 refused g word words kind is why None = subst IsRefused (sym (joined-first g word words kind is)) why
 refused g word words kind is why (Some x) = tt
 
--- the value behind --workers
+-- the value after --workers
 pub value_refused : (g : Gift) (next : List ℕ) (words : List (List ℕ)) → (number_of next ≡ None) ⊎ (length g.workers ≡ 1) → IsRefused (joined g (valued (next ∷ words)))
 value_refused g next words why = workers_refused g (number_of next) (given_by words) why
 
@@ -100,7 +102,7 @@ pub first_is : {T : Type 0} (xs : List T) (x : T) → Some x ≡ slice_get xs 0 
 first_is [] x e = cc
 first_is (y ∷ xs) x e = let same : y ≡ x = cc in ap (λ z. z ∷ xs) same
 
--- the name of a call and what the words behind it give
+-- the name of a call and what the words after it give
 pub good_words : (name : List ℕ) (words : List (List ℕ)) (g : Gift) (call : Option CheckCall) → given_by words ≡ Some g → name ≡ codes "check"
     → IfSome call (IsCheckCall g) → IfSome call (GoodWords (name ∷ words))
 good_words name words g None given is call = tt

@@ -3,8 +3,8 @@ pub mod Search
 pub mod Walks
 pub mod BitMarks
 pub mod Shifts
-pub mod Subsets
 pub mod Runs
 pub mod Prefixes
+pub mod Shares
 pub mod Whole
 pub mod Outcomes

@@ -5,7 +5,7 @@ use Rattle.std.proofs.lemmas.Bool.{cases_lt}
 use Rattle.lj_base.specs.Blocks.{Covers, IsBlock}
 use Rattle.lj_base.specs.Cells.{Triple}
 use Rattle.lj_base.specs.Colex.{Precedes}
-use Rattle.lj_rank.specs.Ranks.{rank_of}
+use Rattle.lj_rank.specs.Ranks.{RankLaws, rank_of}
 use Rattle.lj_verify.specs.Limits.{IsWithinLimits}
 use Rattle.lj_verify.specs.Refusals.{ExceedsLimit, IsRefused}
 use Rattle.lj_verify.specs.Uncovered.{IsFirstUncovered}
@@ -22,12 +22,12 @@ not_before : (bs : List (List ℕ)) (c : Triple) (s r : List ℕ) → IsOrder �
     → IsFirstUncovered bs c r → rank_of s < rank_of r → ⊥
 not_before bs c s r order h g less = h.uncovered (g.before s h.set ((order c.v c.t s r h.set g.set).1 less))
 
-first_once : (bs : List (List ℕ)) (c : Triple) (s r : List ℕ) → IsOrder → IsFirstUncovered bs c s
+first_once : RankLaws → (bs : List (List ℕ)) (c : Triple) (s r : List ℕ) → IsOrder → IsFirstUncovered bs c s
     → IsFirstUncovered bs c r → s ≡ r
-first_once bs c s r order h g =
+first_once ranks bs c s r order h g =
     ⊎_elim (λ less. absurd (not_before bs c s r order h g less))
     (λ least. ⊎_elim (λ less. absurd (not_before bs c r s order g h less))
-    (λ most. same_rank c.v c.t s r h.set g.set (omega arith)) (cases_lt (rank_of r) (rank_of s)))
+    (λ most. same_rank ranks c.v c.t s r h.set g.set (omega arith)) (cases_lt (rank_of r) (rank_of s)))
     (cases_lt (rank_of s) (rank_of r))
 
 -- a limit that is exceeded is not kept
@@ -68,15 +68,16 @@ kinds c bs (Marks n) h = inl h
 kinds c bs (Uncovered s) h = inr (inl (s, refl, h.0, h.1))
 kinds c bs Memory h = inr (inr refl)
 
-pub one_refusal : IsOrder → (c : Triple) (bs : List (List ℕ)) (a b : Refusal) → IsRefused c bs a → IsRefused c bs b
+pub one_refusal : RankLaws → IsOrder → (c : Triple) (bs : List (List ℕ)) (a b : Refusal) → IsRefused c bs a →
+    IsRefused c bs b
     → (a ≡ Memory → ⊥) → (b ≡ Memory → ⊥) → a ≡ b
-one_refusal order c bs a b h g some also =
+one_refusal ranks order c bs a b h g some also =
     ⊎_elim
     (λ limit. ⊎_elim (λ other. limit_once c (length bs) a b limit other)
     (⊎_elim (λ first. absurd (exceeded c (length bs) a limit first.2)) (λ none. absurd (also none))) (kinds c bs b g))
     (⊎_elim
     (λ first. ⊎_elim (λ other. absurd (exceeded c (length bs) b other first.2))
-    (⊎_elim (λ second. first.1 ∙ ap (λ s. Uncovered s) (first_once bs c first.0 second.0 order first.3 second.3)
+    (⊎_elim (λ second. first.1 ∙ ap (λ s. Uncovered s) (first_once ranks bs c first.0 second.0 order first.3 second.3)
     ∙ sym second.1)
     (λ none. absurd (also none))) (kinds c bs b g))
     (λ none. absurd (some none)))

@@ -10,10 +10,9 @@ use Rattle.lj_rank.specs.Ranks.{rank_of}
 use Rattle.lj_base.proofs.Ascending.{Ascends-before, Ascends-push, Has-below, Has-from, Has-from_Within}
 use Rattle.lj_base.proofs.Ascending.{Within-from_Has}
 use Rattle.lj_base.proofs.Ascending.{top_cases}
-use Rattle.lj_rank.proofs.Counting.{rank-below, rank-push}
 use Rattle.lj_base.proofs.Lists.{take-by_last}
-use Rattle.lj_verify.proofs.Subsets.{Ascends-subset}
 use Rattle.lj_verify.specs.Marks.{IsAtPrefix, IsRankAmong, Marks}
+use Rattle.lj_verify.specs.SetLaws.{SetLaws}
 use Rattle.lj_verify.specs.Strings.{IsStringOf, words_for}
 use Rattle.std.proofs.lemmas.Nat.Bits.{bit_at-zero}
 use borrow.Rule.Slice.PartMut.{put_mid}
@@ -38,19 +37,19 @@ choose_mono n m k le =
     omega (arith, e, choose_add n (m - n) k)
 
 -- a set of a low rank has low points alone
-pub below_by_rank : (v p : ℕ) (s : List ℕ) → Ascends 0 v s → rank_of s < choose p (length s) → Ascends 0 p s
-below_by_rank zero p [] h low = tt
-below_by_rank zero p (x ∷ xs) h low = absurd (let under = h.1 in omega arith)
-below_by_rank (suc v) p s h low =
+pub below_by_rank : SetLaws → (v p : ℕ) (s : List ℕ) → Ascends 0 v s → rank_of s < choose p (length s) → Ascends 0 p s
+below_by_rank laws zero p [] h low = tt
+below_by_rank laws zero p (x ∷ xs) h low = absurd (let under = h.1 in omega arith)
+below_by_rank laws (suc v) p s h low =
     top_cases 0 v (λ xs. rank_of xs < choose p (length xs) → Ascends 0 p xs)
-    (λ xs k under. below_by_rank v p xs k under)
+    (λ xs k under. below_by_rank laws v p xs k under)
     (λ xs k under.
     ⊎_elim
     (λ less. Ascends-push 0 v p xs (omega arith) less k)
     (λ more.
     let long : length (xs ++ v ∷ []) ≡ suc (length xs) = omega (arith, length_push xs v) in
     let same = ap (choose p) long in
-    absurd (omega (arith, under, same, rank-push xs v, choose_mono p v (suc (length xs)) more)))
+    absurd (omega (arith, under, same, laws.ranks.push xs v, choose_mono p v (suc (length xs)) more)))
     (cases_lt v p))
     s h low
 
@@ -71,16 +70,16 @@ Has-take_less (x ∷ b) (suc i) q (inl e) = inl e
 Has-take_less (x ∷ b) (suc i) q (inr has) = inr (Has-take_less b i q has)
 
 -- the ranks below the number of sets below a point of the block are those of the sets of the points before it
-pub among_before : (b : List ℕ) (i v s q : ℕ) → Ascends 0 99 b → i < length b → v ≡ get_or b i 0
+pub among_before : SetLaws → (b : List ℕ) (i v s q : ℕ) → Ascends 0 99 b → i < length b → v ≡ get_or b i 0
     → ((q < choose v s) × IsRankAmong b s 0 q) ↔ IsRankAmong (take i b) s 0 q
-among_before b i v s q k within is = (
+among_before laws b i v s q k within is = (
   λ h.
       let t = h.1.0 in
       let set = h.1.1 in
       let at = h.1.2 in
       let low = h.0 in
       let count = ap (choose v) set.0.1 in
-      let below : Ascends 0 v t = below_by_rank 99 v t set.0.0 (omega (arith, at, low, count)) in (
+      let below : Ascends 0 v t = below_by_rank laws 99 v t set.0.0 (omega (arith, at, low, count)) in (
         t,
         (
           set.0,
@@ -96,9 +95,8 @@ among_before b i v s q k within is = (
       let at = h.2 in
       let low : Ascends 0 v (take i b) = subst (λ p. Ascends 0 p (take i b)) (sym is)
       (Ascends-before 0 99 b i k within) in
-      let count = ap (choose v) set.0.1 in
-      let rank = rank-below v t (Ascends-subset v s (take i b) t low set) in (
-        omega (arith, at, rank, count),
+      let rank = laws.ranks.below v s t (laws.below v s (take i b) t low set, set.0.1) in (
+        omega (arith, at, rank),
         (
           t,
           (
@@ -112,23 +110,23 @@ among_before b i v s q k within is = (
 )
 
 -- the sets with one more point, by the prefix of the string
-pub marks_prefix : (start : ℕ) (y z b string : List ℕ) (i v s rest : ℕ) → Ascends 0 99 b → i < length b
+pub marks_prefix : SetLaws → (start : ℕ) (y z b string : List ℕ) (i v s rest : ℕ) → Ascends 0 99 b → i < length b
     → v ≡ get_or b i 0 → Has b v → IsStringOf b s string
     → Marks start y z (IsAtPrefix rest string (choose v s)) → Marks start y z (IsRankAmong (take i b) s rest)
-marks_prefix start y z b string i v s rest k within is has full h =
+marks_prefix laws start y z b string i v s rest k within is has full h =
     let room = full.room v has in
     marks_same start y z (IsAtPrefix rest string (choose v s)) (IsRankAmong (take i b) s rest) h
     (λ r g.
     let q = g.0 in
     let low = g.1 in
-    let among = (among_before b i v s q k within is).0 (low, (full.each q (omega (arith, low, room))).0 g.2) in
+    let among = (among_before laws b i v s q k within is).0 (low, (full.each q (omega (arith, low, room))).0 g.2) in
     let at = g.3 in
     let rank = among.2 in
     (among.0, among.1, omega (arith, at, rank)))
     (λ r from to g.
     let q = rank_of g.0 in
     let at = g.2 in
-    let back = (among_before b i v s q k within is).1 (g.0, g.1, omega arith) in
+    let back = (among_before laws b i v s q k within is).1 (g.0, g.1, omega arith) in
     let low = back.0 in
     (q, low, (full.each q (omega (arith, low, room))).1 back.1, at))
 

@@ -10,13 +10,14 @@ use crate::workers::mark_map;
 use lj_base::{Block, Cell, binom};
 use lj_bitmap::RankMap;
 use lj_cover::Design;
-use lj_rank::{order_law, unrank};
+use lj_rank::{order_law, rank_law, unrank};
 use std::alloc::Global;
 use std::thread::Threads;
 
 /// Whether the blocks cover the cell: each set that a block contains is marked in a bit map, and the first that is not
 /// marked is looked for. The answer does not depend on the number of workers.
-/// Cost: at most a few steps for each set of `t - 1` points of a block, and one for each 512 sets; a bit for each set.
+/// Cost: at most a few steps for each set of `t - 1` points of a block, and one for each 512 sets; a bit for each set,
+/// and for a small map as much again for each worker.
 pub fn check<R: Threads + Sync>(
     rt: &R,
     alloc: Global,
@@ -33,6 +34,7 @@ pub fn check<R: Threads + Sync>(
     ensures refused { IfErr result (IsRefused cell blocks.items) }
 {
     order_law();
+    rank_law();
     within_limits(cell, blocks.len() as u64)?;
     let v = cell.v as u64;
     let t = cell.t as u64;
@@ -40,7 +42,9 @@ pub fn check<R: Threads + Sync>(
         return Err(Refusal::Memory);
     };
     let size = best_size(v, cell.k as u64, t);
-    mark_map(rt, &mut map, &blocks, t, size, workers);
+    let Ok(()) = mark_map(rt, alloc, &mut map, &blocks, t, size, workers) else {
+        return Err(Refusal::Memory);
+    };
     match map.first_clear() {
         None => Ok(Design::of(cell, blocks)),
         Some(r) => Err(Refusal::Uncovered {

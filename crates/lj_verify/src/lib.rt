@@ -11,6 +11,8 @@ mod plain;
 mod refusals;
 mod sizes;
 mod strings;
+#[cfg(test)]
+mod tests;
 mod texts;
 mod workers;
 

@@ -4,6 +4,7 @@ ghost use Rattle.lj_base.specs.Blocks.{Ascends};
 ghost use Rattle.lj_verify.specs.Marks.{IsAtPoint, IsIn, IsRankAmong, IsRankIn, Marks};
 
 use crate::bits::mark_bits;
+use crate::laws::set_laws;
 use lj_base::{Block, binom};
 
 // Points below 128: bit p of `low` is point p, and bit p of `high` is point 64 + p.
@@ -32,6 +33,7 @@ pub(crate) fn mark_block(words: &mut [u64], start: u64, block: &Block, t: u64)
     requires few_words { start + length words.old ≤ 2 ^ 32 }
     ensures { Marks start words.old words.new (IsRankAmong block.now t 0) }
 {
+    set_laws();
     let len = block.len();
     if len < t {
         return;
@@ -48,6 +50,7 @@ pub(crate) fn mark_points(words: &mut [u64], start: u64, block: &Block)
     requires few_words { start + length words.old ≤ 2 ^ 32 }
     ensures { Marks start words.old words.new (IsRankAmong block.now 1 0) }
 {
+    set_laws();
     for i in 0..block.len() {
         mark_bits(words, start, block.at(i) as u64, 1);
     }
@@ -66,6 +69,7 @@ fn mark_among(words: &mut [u64], start: u64, block: &Block, n: u64, t: u64, rest
     requires fits { rest + t * 2 ^ 38 ≤ 2 ^ 42 }
     ensures { Marks start words.old words.new (IsRankAmong (take n block.now) t rest) }
 {
+    set_laws();
     if t == 2 {
         return mark_pairs(words, start, block, n, rest);
     }
@@ -89,6 +93,7 @@ fn mark_pairs(words: &mut [u64], start: u64, block: &Block, n: u64, rest: u64)
     requires fits { rest + 2 * 2 ^ 38 ≤ 2 ^ 42 }
     ensures { Marks start words.old words.new (IsRankAmong (take n block.now) 2 rest) }
 {
+    set_laws();
     let mut lower = PointBits { low: 0, high: 0 };
     for i in 0..n {
         let point = block.at(i) as u64;

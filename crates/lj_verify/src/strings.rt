@@ -5,6 +5,7 @@ ghost use Rattle.lj_verify.specs.Marks.{IsRankAmong, IsRankIn, Marks};
 ghost use Rattle.lj_verify.specs.Strings.{IsStringOf, words_for};
 
 use crate::bits::mark_prefix;
+use crate::laws::set_laws;
 use crate::pairs::{mark_block, mark_points};
 use lj_base::{Block, binom};
 
@@ -54,6 +55,7 @@ fn mark_by_string(
     ensures marks { Marks start words.old words.new (IsRankAmong block.now t 0) }
     ensures stays { length scratch.new ≡ length scratch.old }
 {
+    set_laws();
     let len = block.len();
     if len < t {
         return;
@@ -138,6 +140,7 @@ fn mark_above(
     requires few { length string.now ≤ 2 ^ 32 }
     ensures { Marks start words.old words.new (IsRankAmong (take n block.now) t rest) }
 {
+    set_laws();
     if t == size + 1 {
         return mark_prefixes(words, start, block, n, size, rest, string);
     }
@@ -173,6 +176,7 @@ fn mark_prefixes(
     requires few { length string.now ≤ 2 ^ 32 }
     ensures { Marks start words.old words.new (IsRankAmong (take n block.now) (size + 1) rest) }
 {
+    set_laws();
     let low = 64 * start;
     let high = low + 64 * words.len() as u64;
     for i in 0..n {

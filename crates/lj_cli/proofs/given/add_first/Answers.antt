@@ -4,7 +4,8 @@ use Rattle.lj_text.specs.Numbers.{number_of}
 use Rattle.lj_cli.specs.Given.{given_by, joined}
 use Rattle.lj_cli.specs.GoodWords.{texts}
 use Rattle.lj_cli.specs.declared.given.Kind.TheVariants.{Json, Positional, Unknown, Workers, WorkersValue}
-use Rattle.lj_cli.proofs.Joining.{joined-first, number_added, workers_added, json_added, number_refused, workers_refused, json_refused, refused, value_refused, valued, first_is, IsRefused}
+use Rattle.lj_cli.proofs.Joining.{joined-first, number_added, workers_added, json_added, number_refused}
+use Rattle.lj_cli.proofs.Joining.{workers_refused, json_refused, refused, value_refused, valued, first_is, IsRefused}
 use Rattle.lj_cli.proofs.given.add_first.Goals as goal
 
 pub returns-in_err-add_workers-in-WorkersValue-clause-none : goal.returns-in_err-add_workers-in-WorkersValue-clause-none

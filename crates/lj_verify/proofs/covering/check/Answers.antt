@@ -15,11 +15,11 @@ of-requires g c =
     let new = c.mark_map.new.map in
     let clear : old ≡ replicate (choose cell.v cell.t) false = c.in-Ok.ensures ∙ ap
     (λ n. replicate n false) c.binom.ensures.value in
-    let marks = marks_from_none bs cell old new clear c.mark_map.ensures.count
+    let marks = marks_from_none bs cell old new clear c.in-Ok-mark_map.ensures.count
     (subst (λ ds. (r : ℕ) → r < length old → (get_or new r false ≡ true) ↔
-    ((get_or old r false ≡ true) ⊎ IsRankIn ds cell.t r)) c.deref.ensures.value c.mark_map.ensures.marks) in
+    ((get_or old r false ≡ true) ⊎ IsRankIn ds cell.t r)) c.deref.ensures.value c.in-Ok-mark_map.ensures.marks) in
     let blocks = subst (λ (d : Triple). AreBlocks d.v d.k bs) (sym c.cell.view_is) c.requires.blocks in
-    subst (Covers bs) c.cell.view_is (all_marked bs cell new c.cell.invariant.1 blocks marks
+    subst (Covers bs) c.cell.view_is (all_marked c.rank_law.ensures bs cell new c.cell.invariant.1 blocks marks
     (sym c.first_clear.ensures ∙ c.in-None.is))
 
 pub returns-in-Some-clause-refused : goal.returns-in-Some-clause-refused
@@ -30,11 +30,12 @@ returns-in-Some-clause-refused g c =
     let new = c.mark_map.new.map in
     let clear : old ≡ replicate (choose cell.v cell.t) false = c.in-Ok.ensures ∙ ap
     (λ n. replicate n false) c.binom.ensures.value in
-    let marks = marks_from_none bs cell old new clear c.mark_map.ensures.count
+    let marks = marks_from_none bs cell old new clear c.in-Ok-mark_map.ensures.count
     (subst (λ ds. (r : ℕ) → r < length old → (get_or new r false ≡ true) ↔
-    ((get_or old r false ≡ true) ⊎ IsRankIn ds cell.t r)) c.deref.ensures.value c.mark_map.ensures.marks) in (
+    ((get_or old r false ≡ true) ⊎ IsRankIn ds cell.t r)) c.deref.ensures.value c.in-Ok-mark_map.ensures.marks) in (
       search rules,
       subst (λ (d : Triple). IsFirstUncovered bs d c.unrank.result) c.cell.view_is
-          (first_clear bs cell new c.in-Some.r c.unrank.result c.cell.invariant.1 c.order_law.ensures marks
+          (first_clear c.rank_law.ensures bs cell new c.in-Some.r c.unrank.result c.cell.invariant.1
+          c.order_law.ensures marks
           (sym c.first_clear.ensures ∙ c.in-Some.is) c.unrank.ensures.block c.unrank.ensures.rank),
     )

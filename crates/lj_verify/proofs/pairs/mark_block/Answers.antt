@@ -5,7 +5,8 @@ use Rattle.lj_verify.proofs.pairs.mark_block.Goals as goal
 
 pub returns-then-len-t : goal.returns-then-len-t
 returns-then-len-t c =
-    marks_small c.args.start c.args.words.now c.args.block.now c.args.t c.len-len.ensures.ascends (omega arith)
+    marks_small c.set_laws.ensures c.args.start c.args.words.now c.args.block.now c.args.t c.len-len.ensures.ascends
+    (omega arith)
 
 pub returns-in-0 : goal.returns-in-0
 returns-in-0 c =

@@ -14,7 +14,8 @@ with_point-lower-requires c =
 
 pub loop-i-init : goal.loop-i-init
 loop-i-init c = record {
-  marks = marks_few c.args.start c.args.words.now c.args.block.now 0 2 c.args.rest c.requires.ascends (omega arith)
+  marks = marks_few c.set_laws.ensures c.args.start c.args.words.now c.args.block.now 0 2 c.args.rest
+      c.requires.ascends (omega arith)
       (omega arith);
   points = no_points;
 }
@@ -30,7 +31,8 @@ loop-i-preserved c =
     (IsAtPoint (c.args.rest + n) c.loop-i.lower.low c.loop-i.lower.high)) c.binom.ensures.value
     c.mark_run.ensures in
     record {
-      marks = marks_more c.args.start _ _ _ b i 2 c.args.rest v c.requires.ascends within c.at-point.ensures
+      marks = marks_more c.set_laws.ensures c.args.start _ _ _ b i 2 c.args.rest v c.requires.ascends within
+          c.at-point.ensures
           (omega arith) old.marks
           (marks_singles c.args.start _ _ (take i b) _ _ _ (Ascends-take 0 99 b i c.requires.ascends) old.points run);
       points = points_more b i v _ _ _ _ within c.at-point.ensures old.points c.with_point-lower.ensures;

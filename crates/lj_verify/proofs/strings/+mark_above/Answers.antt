@@ -9,7 +9,7 @@ use Rattle.lj_verify.proofs.strings.+mark_above.Goals.{else-least-high-via-then-
 use Rattle.lj_verify.proofs.strings.+mark_above.Goals.{else-least-high-via-else-least-high}
 
 pub loop-i-init : goal.loop-i-init
-loop-i-init t c = marks_few c.args.start c.args.words.now c.args.block.now
+loop-i-init t c = marks_few c.set_laws.ensures c.args.start c.args.words.now c.args.block.now
     (c.args.t - 1) c.args.t c.args.rest c.requires.ascends (omega arith) (omega arith)
 
 pub binom-requires-clause-few_points : goal.binom-requires-clause-few_points
@@ -34,9 +34,11 @@ loop-i-preserved t c =
     let long = c.loop-i.auto.words in
     let more = λ (new : _) (run : Marks start old new
     (IsRankAmong (take i b) (c.args.t - 1) (rest + choose v c.args.t))).
-    marks_more start c.args.words.now old new b i c.args.t rest v c.requires.ascends within c.at-point.ensures some
+    marks_more c.set_laws.ensures start c.args.words.now old new b i c.args.t rest v c.requires.ascends within
+    c.at-point.ensures some
     c.loop-i.invariant run in
-    let outside = marks_outside start old b i c.args.t rest v c.requires.ascends within c.at-point.ensures some in
+    let outside = marks_outside c.set_laws.ensures start old b i c.args.t rest v c.requires.ascends within
+    c.at-point.ensures some in
     elim c.if-least-high.branch [
       | then-least-high+then-low-rest w ↦
           subst (λ new. Marks start c.args.words.now new (IsRankAmong (take (i + 1) b) c.args.t rest)) (sym w.words-is)

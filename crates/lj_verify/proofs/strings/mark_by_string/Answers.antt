@@ -8,7 +8,8 @@ use Rattle.lj_verify.proofs.strings.mark_by_string.Goals as goal
 
 pub returns-then-len-t-clause-marks : goal.returns-then-len-t-clause-marks
 returns-then-len-t-clause-marks c =
-    marks_small c.args.start c.args.words.now c.args.block.now c.args.t c.len-len.ensures.ascends (omega arith)
+    marks_small c.set_laws.ensures c.args.start c.args.words.now c.args.block.now c.args.t c.len-len.ensures.ascends
+    (omega arith)
 
 pub needs-requires-clause-few_points : goal.needs-requires-clause-few_points
 needs-requires-clause-few_points c = omega (

@@ -11,7 +11,7 @@ use Rattle.lj_verify.proofs.strings.mark_prefixes.Goals.{else-least-high-via-the
 use Rattle.lj_verify.proofs.strings.mark_prefixes.Goals.{else-least-high-via-else-least-high}
 
 pub loop-i-init : goal.loop-i-init
-loop-i-init c = marks_few c.args.start c.args.words.now c.args.block.now 0
+loop-i-init c = marks_few c.set_laws.ensures c.args.start c.args.words.now c.args.block.now 0
     (c.args.size + 1) c.args.rest c.requires.ascends (omega arith) (omega arith)
 
 pub binom-requires-clause-few_points : goal.binom-requires-clause-few_points
@@ -48,16 +48,18 @@ loop-i-preserved c =
     let has = subst (Has b) (sym c.at-point.ensures) (Has-at b i within) in
     let same : s ≡ s + 1 - 1 = omega arith in
     let more = λ (new : _) (run : Marks start old new (IsRankAmong (take i b) (s + 1 - 1) (rest + choose v (s + 1)))).
-    marks_more start c.args.words.now old new b i (s + 1) rest v c.requires.ascends within c.at-point.ensures
+    marks_more c.set_laws.ensures start c.args.words.now old new b i
+    (s + 1) rest v c.requires.ascends within c.at-point.ensures
     (omega arith) c.loop-i.invariant run in
-    let outside = marks_outside start old b i (s + 1) rest v c.requires.ascends within c.at-point.ensures
+    let outside = marks_outside c.set_laws.ensures start old b i
+    (s + 1) rest v c.requires.ascends within c.at-point.ensures
     (omega arith) in
     elim c.if-least-high.branch [
       | then-least-high+then-low-rest w ↦
           subst (λ new. Marks start c.args.words.now new (IsRankAmong (take (i + 1) b) (s + 1) rest)) (sym w.words-is)
           (more w.mark_prefix.new.words (subst
           (λ n. Marks start old w.mark_prefix.new.words (IsRankAmong (take i b) n (rest + choose v (s + 1)))) same
-          (marks_prefix start old w.mark_prefix.new.words b c.args.string.now i v s
+          (marks_prefix c.set_laws.ensures start old w.mark_prefix.new.words b c.args.string.now i v s
           (rest + choose v (s + 1)) c.requires.ascends within c.at-point.ensures has c.requires.string
           (subst (λ n. Marks start old w.mark_prefix.new.words (IsAtPrefix (rest + n) c.args.string.now (choose v s)))
           least
