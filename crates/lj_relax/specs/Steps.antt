@@ -1,4 +1,4 @@
--- The four steps of a table of bounds: an upload is accepted, a ticket is claimed, a ticket is published, a bound is read.
+-- The four steps of a table of bounds: an upload is accepted, a ticket is claimed or published, a bound is read.
 use Rattle.std.specs.Prelude.{
   ◌≡◌,
   ◌≢◌,
@@ -69,8 +69,8 @@ pub record IsLesser (u : Upload) (c : Triple) (m n : ℕ) : Type 0 where
   pub each : (r : Rule) → IsOffer u c r → n ≤ rule_cost r []
   pub one : (n ≡ m) ⊎ ((r : Rule) × IsOffer u c r × (rule_cost r [] ≡ n))
 
--- from s to n by an accepted upload: the bounds fall to what it offers, and the cells that read one whose bound fell are
--- opened, and those at which it has a row
+-- from s to n by an accepted upload: the bounds fall to what it offers; the cells that read one whose bound fell are
+-- opened, and so are those at which it has a row
 pub record Accepts (s : State) (u : Upload) (n : State) : Type 0 where
   pub frame : n.frame ≡ s.frame
   pub uploads : n.uploads ≡ s.uploads ++ u ∷ []
@@ -79,7 +79,7 @@ pub record Accepts (s : State) (u : Upload) (n : State) : Type 0 where
       (IsTrue (s.pending d) ⊎ ((d.t ≡ u.cell.t) × (d.v ≤ u.cell.v))
       ⊎ ((e : Triple) × InFrame s.frame e × (n.bounds e < s.bounds e) × Reads s.frame d e))
 
--- from s to n by the claim of an open cell: the snapshot has the bounds and the cell's rows of now, and the state stays
+-- from s to n by the claim of an open cell: the snapshot has the bounds and the cell's rows of now; the state stays
 pub record Claims (s : State) (a : Snapshot) (n : State) : Type 0 where
   pub inside : InFrame s.frame a.cell
   pub is_open : IsTrue (s.pending a.cell)
@@ -87,14 +87,14 @@ pub record Claims (s : State) (a : Snapshot) (n : State) : Type 0 where
   pub rows : a.rows ≡ rows_at s.uploads a.cell
   pub state : n ≡ s
 
--- what a snapshot that was claimed at any earlier time has: numbers that are derivable, and rows at its cell
+-- what a snapshot has that was claimed at any earlier time: numbers that are derivable, and rows at its cell
 pub record IsOld (s : State) (a : Snapshot) : Type 0 where
   pub inside : InFrame s.frame a.cell
   pub derivable : (d : Triple) → InFrame s.frame d → DerivableIn s.frame s.uploads d (a.bounds d)
   pub rows : (row : Row) → Contains a.rows row → Contains (rows_at s.uploads a.cell) row
 
--- the snapshot's rows, with their uploads, are those of now, and its numbers are the bounds of now at each cell that its
--- cell reads
+-- the snapshot's rows, with their uploads, are those of now, and its numbers are the bounds of now at each cell that
+-- its cell reads
 pub record Agrees (s : State) (a : Snapshot) : Type 0 where
   pub rows : a.rows ≡ rows_at s.uploads a.cell
   pub bounds : (d : Triple) → InFrame s.frame d → Reads s.frame a.cell d → a.bounds d ≡ s.bounds d
@@ -103,8 +103,8 @@ pub record Agrees (s : State) (a : Snapshot) : Type 0 where
 abbrev pub Lowers : State → Snapshot → Option ℕ → Type 0
 Lowers s a best = MatchOption best ⊥ (λ n. n < s.bounds a.cell)
 
--- from s to n by the publication of a snapshot with its least price: the cell's bound falls to that price where it is lower,
--- and then the other cells that read the cell are opened; the cell is closed where the snapshot agrees
+-- from s to n by the publication of a snapshot with its least price: the cell's bound falls to that price where it is
+-- lower, and then the other cells that read the cell are opened; the cell is closed where the snapshot agrees
 pub record Publishes (s : State) (a : Snapshot) (best : Option ℕ) (lowered agreed : Bool) (n : State) : Type 0 where
   pub lowers : IsTrue lowered ↔ Lowers s a best
   pub agrees : IsTrue agreed ↔ Agrees s a
