@@ -1,4 +1,6 @@
-ghost use Rattle.std.specs.Prelude.{◌≡◌, IfOk, IsTrue};
+ghost use Rattle.std.specs.Prelude.{◌≡◌, ℕ, List, IfOk, IsTrue};
+ghost use Rattle.lj_base.specs.Blocks.{Covers};
+ghost use Rattle.lj_base.specs.Cells.{Triple};
 ghost use Rattle.lj_cover.specs.Rules.{triple};
 ghost use Rattle.lj_samples.specs.Samples.{fano_lines, five_fives, four_triples, fourteen_planes, pairs_of_three, runs_of_two, three_fours};
 ghost use Rattle.lj_samples.specs.Tested.{covers};
@@ -8,12 +10,19 @@ use lj_base::{Block, Cell, Memory};
 use lj_cover::{Design, laws};
 use std::alloc::Global;
 
+/// A list that passes the test covers.
+pub fn covers_law()
+    ensures { (bs : List (List ℕ)) (c : Triple) → IsTrue (covers bs c) → Covers bs c }
+{
+    laws::all_cover();
+}
+
 /// The design of blocks that pass the test.
 pub fn covering(cell: Cell, blocks: Vec<Block>) -> Design
     requires { IsTrue (covers blocks.items cell) }
     ensures { result ≡ record { cell = cell; blocks = blocks.items } }
 {
-    laws::all_cover();
+    covers_law();
     Design::of(cell, blocks)
 }
 

@@ -10,10 +10,10 @@ use std::alloc::Global;
 pub fn upload(alloc: Global, ordinal: u64, design: Design) -> Result<Accepted, Memory>
     requires { length design.blocks ≤ 100000 }
     ensures { IfOk result (λ up. up ≡ record {
-        client = ann;
-        ordinal = ordinal;
-        cell = design.cell;
-        blocks = design.blocks
+      client = ann;
+      ordinal = ordinal;
+      cell = design.cell;
+      blocks = design.blocks;
     }) }
 {
     match Name::of(b"ann") {

@@ -49,6 +49,8 @@ fn the_first_clear_ranks_come_in_order(rt: HostRuntime) -> Result<(), Fail> {
     assert_eq!(rt; map.first_clear(), Some(199));
     map.mark(199);
     assert_eq!(rt; map.first_clear(), None);
+    map.unmark(64);
+    assert_eq!(rt; map.first_clear(), Some(64));
     Ok(())
 }
 

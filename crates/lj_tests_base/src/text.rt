@@ -2,8 +2,8 @@ ghost use Rattle.std.specs.Prelude.{◌≡◌, ◌<◌, ◌≤◌, length, None}
 
 use lj_base::{Failed, Sink, Source};
 use lj_text::{
-    Line, Lines, NotNumber, ReadFail, Token, Tokens, WriteFault, number, put, put_number, read_all,
-    write_all,
+    Line, Lines, NotNumber, ReadFail, Token, Tokens, WriteFault, number, put, put_field,
+    put_joined, put_named, put_number, put_number_field, put_number_fields, read_all, write_all,
 };
 use std::test::Fail;
 
@@ -235,5 +235,22 @@ fn numbers_are_written_in_decimal_digits(rt: HostRuntime) -> Result<(), Fail> {
         put_number(&mut text, n)?;
         assert_eq!(rt; text.as_slice(), want);
     }
+    Ok(())
+}
+
+#[test]
+fn fields_are_written_after_what_is_there(rt: HostRuntime) -> Result<(), Fail> {
+    let mut text = b"7".to_vec(rt.alloc())?;
+    put_field(&mut text, b"drop")?;
+    put_number_field(&mut text, 5)?;
+    put_number_fields(&mut text, &[3, 2])?;
+    put(&mut text, b"\n")?;
+    put_named(&mut text, b"covers", &[12])?;
+    put(&mut text, b"\n")?;
+    put_joined(&mut text, b':', &[0, 1, 20])?;
+    assert_eq!(rt;
+        text.as_slice(),
+        b"7 drop 5 3 2\ncovers 12\n0:1:20".as_slice()
+    );
     Ok(())
 }

@@ -1,6 +1,6 @@
 ghost use Rattle.std.specs.Prelude.{◌≡◌, [], ◌∷◌, map, replicate};
 ghost use Rattle.lj_cover.specs.Derivations.{IsDerivation, tree_cost, expand};
-ghost use Rattle.lj_cover.specs.Instances.{cut_counts, row_price, rows_at};
+ghost use Rattle.lj_cover.specs.Instances.{counts_at, cut_counts, row_price};
 ghost use Rattle.lj_cover.specs.Lower.{schonheim};
 ghost use Rattle.lj_cover.specs.Rules.{triple};
 ghost use Rattle.lj_tests_cover.specs.Examples.{five_fives, induced_example, interval_example, product_example, runs_example, three_fours, two_points_example};
@@ -9,10 +9,11 @@ use crate::rules_on_lists;
 use lj_base::{Block, Cell};
 use lj_cover::{
     add_design, add_point, cut_first, degree, derive_design, derive2_design, drop_design,
-    drop_last, fill, grow_design, join_blocks, laws, lower_design, relabel, unite, without,
+    drop_last, fill, grow_design, join_blocks, lower_design, relabel, unite, without,
 };
 use lj_samples::{
-    block, covering, fano_plane, five_fives, four_triples, pairs_of_three, runs_of_two, three_fours,
+    block, covering, covers_law, fano_plane, five_fives, four_triples, pairs_of_three, runs_of_two,
+    three_fours,
 };
 use std::alloc::{AllocError, Global};
 use std::test::Fail;
@@ -162,9 +163,9 @@ fn examples_of_lower_numbers()
 // Of the three cuts to five points two have three points and one has four.
 fn examples_of_rows()
     ensures counts { cut_counts 5 three_fours.blocks ≡ 0 ∷ 0 ∷ 0 ∷ 2 ∷ 1 ∷ replicate 21 0 }
-    ensures rows { rows_at (three_fours ∷ five_fives ∷ []) (triple 5 3 2)
+    ensures rows { counts_at (three_fours ∷ five_fives ∷ []) (triple 5 3 2)
         ≡ cut_counts 5 three_fours.blocks ∷ [] }
-    ensures none { rows_at (three_fours ∷ five_fives ∷ []) (triple 7 3 2) ≡ [] }
+    ensures none { counts_at (three_fours ∷ five_fives ∷ []) (triple 7 3 2) ≡ [] }
     ensures price { row_price (λ c. 3) (triple 5 3 2) (cut_counts 5 three_fours.blocks) ≡ 5 }
 {}
 
@@ -302,7 +303,7 @@ fn examples_are_derivations()
     ensures interval { IsDerivation interval_example }
     ensures two_points { IsDerivation two_points_example }
 {
-    laws::all_cover();
+    covers_law();
 }
 
 #[test]

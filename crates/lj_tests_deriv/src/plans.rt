@@ -36,6 +36,7 @@ fn a_rule_of_an_upload_is_spelled_with_its_client_and_ordinal(rt: HostRuntime) -
     let leaf = arena.add(Rule::Leaf { upload });
     let derived = arena.add(Rule::Derived { upload, point: 0 });
     assert!(rt; plan_text(alloc, &arena, leaf)?.as_slice() == b"1 leaf 3 2 2 3 ann 7\n".as_slice());
+    assert_eq!(rt; arena.plan(alloc, leaf)?.uploads().len(), 1);
     let text = plan_text(alloc, &arena, derived)?;
     assert!(rt; text.as_slice() == b"1 derived 2 1 1 2 ann 7 1\n".as_slice());
     Ok(())

@@ -27,3 +27,13 @@ fn the_first_pair_of_least_degree_of_five_fives(rt: HostRuntime) -> Result<(), F
     assert_eq!(rt; upload.least_pair(), (0, 1, 3));
     Ok(())
 }
+
+#[test]
+fn uploads_with_other_ordinals_or_blocks_differ(rt: HostRuntime) -> Result<(), Fail> {
+    let alloc = rt.alloc();
+    let first = upload(alloc, 1, three_fours(alloc)?)?;
+    assert!(rt; first.same(&upload(alloc, 1, three_fours(alloc)?)?));
+    assert!(rt; !first.same(&upload(alloc, 2, three_fours(alloc)?)?));
+    assert!(rt; !first.same(&upload(alloc, 1, four_triples(alloc)?)?));
+    Ok(())
+}
