@@ -1,5 +1,6 @@
 -- The blocks for the cuts of an upload's blocks.
-use Rattle.std.proofs.Common.{◌≡◌, ◌↔◌, ℕ, ◌+◌, ◌<◌, ◌≤◌, ⊎_elim, List, [], ◌∷◌, ◌++◌, Option, length, map, take, get_or}
+use Rattle.std.proofs.Common.{◌≡◌, ◌↔◌, ℕ, ◌+◌, ◌<◌, ◌≤◌, ⊎_elim, List, [], ◌∷◌, ◌++◌, Option, length, map, take}
+use Rattle.std.proofs.Common.{get_or}
 use Rattle.std.proofs.Common.{refl, sym, ap, ap₂, ◌∙◌, subst}
 use Rattle.std.proofs.lemmas.List.{flat_map_more, take_all, take_more}
 use Rattle.std.proofs.lemmas.List.Elements.{Contains-get_or}
@@ -17,7 +18,8 @@ use Rattle.lj_expand.specs.Expansions.{IsHeldAt, blocks_at}
 
 -- the blocks for the cut of a block, where the child for each size has its place
 abbrev pub blocks_of_one : Triple → List ℕ → List (Option Covering) → List ℕ → List (List ℕ)
-blocks_of_one c children held b = blocks_of_cut c.t c.k (blocks_at held (get_or children (length (cut c.v b)) 0)) (cut c.v b)
+blocks_of_one c children held b =
+    blocks_of_cut c.t c.k (blocks_at held (get_or children (length (cut c.v b)) 0)) (cut c.v b)
 
 abbrev pub blocks_of_cuts : Triple → List ℕ → List (Option Covering) → List (List ℕ) → List (List ℕ)
 blocks_of_cuts c children held bs = flat_map (blocks_of_one c children held) bs
@@ -84,12 +86,12 @@ module _ (sizes_law : SizesLaw) where
       let sizes : List ℕ = cut_sizes c.k c.v bs in
       let lists : List (List (List ℕ)) = map (blocks_at held) (map (λ l. get_or children l 0) sizes) in
       let each : (b : List ℕ) → Contains bs b
-          → blocks_of_one c children held b ≡ cut_blocks c.t c.k sizes lists (cut c.v b) = λ b there.
-          child_law c.t c.k _ (at_size sizes lists [] (length (cut c.v b))) (cut c.v b) (λ more.
-          sym (ap (λ ls. at_size sizes ls [] (length (cut c.v b)))
-          (map-map (blocks_at held) (λ l. get_or children l 0) sizes)
-          ∙ lists_law (λ l. blocks_at held (get_or children l 0)) sizes (length (cut c.v b))
-          (has_size v m c bs b blocks there more))) in
+      → blocks_of_one c children held b ≡ cut_blocks c.t c.k sizes lists (cut c.v b) = λ b there.
+      child_law c.t c.k _ (at_size sizes lists [] (length (cut c.v b))) (cut c.v b) (λ more.
+      sym (ap (λ ls. at_size sizes ls [] (length (cut c.v b)))
+      (map-map (blocks_at held) (λ l. get_or children l 0) sizes)
+      ∙ lists_law (λ l. blocks_at held (get_or children l 0)) sizes (length (cut c.v b))
+      (has_size v m c bs b blocks there more))) in
       flat_map-each (blocks_of_one c children held) (λ b. cut_blocks c.t c.k sizes lists (cut c.v b)) bs
       (AllByRecursion-from_places _ [] bs (λ i inside. each (get_or bs i []) (Contains-get_or bs i [] inside)))
 
@@ -104,8 +106,10 @@ module _ (sizes_law : SizesLaw) where
       ∙ cuts-induced lists_law child_law v m c children held bs blocks
 
 -- the blocks for one more block
-pub cuts-more : (c : Triple) (children : List ℕ) (held : List (Option Covering)) (bs : List (List ℕ)) (i : ℕ) (b points : List ℕ) (before now : List (List ℕ)) → i < length bs → b ≡ get_or bs i b
-    → points ≡ cut c.v b → before ≡ blocks_of_cuts c children held (take i bs) → now ≡ before ++ blocks_of_cut c.t c.k (blocks_at held (get_or children (length points) 0)) points
+pub cuts-more : (c : Triple) (children : List ℕ) (held : List (Option Covering)) (bs : List (List ℕ)) (i : ℕ)
+    (b points : List ℕ) (before now : List (List ℕ)) → i < length bs → b ≡ get_or bs i b
+    → points ≡ cut c.v b → before ≡ blocks_of_cuts c children held (take i bs)
+    → now ≡ before ++ blocks_of_cut c.t c.k (blocks_at held (get_or children (length points) 0)) points
     → now ≡ blocks_of_cuts c children held (take (i + 1) bs)
 cuts-more c children held bs i b points before now inside is cut_is so_far more =
     more
