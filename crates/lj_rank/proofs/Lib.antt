@@ -1,7 +1,9 @@
+pub mod RankCounts
+pub mod Order
+pub mod SetList
+pub mod Successor
+pub mod Subsets
 pub mod Ascending
 pub mod Places
 pub mod Counting
-pub mod Order
 pub mod Listing
-pub mod Successor
-pub mod Subsets

@@ -5,7 +5,7 @@ use Rattle.lj_base.specs.Blocks.{Ascends, Has}
 use Rattle.lj_base.specs.Colex.{choose, Precedes}
 use Rattle.lj_rank.specs.Ranks.{rank_of}
 use Rattle.lj_base.proofs.Ascending.{Has-below, Has-last, Has-push, Has-push_cases, top_cases}
-use Rattle.lj_rank.proofs.Counting.{rank-push, rank-below}
+use Rattle.lj_rank.proofs.RankCounts.{rank-push, rank-below}
 
 -- a set with the top point stands after each without it
 Precedes-top : (v : ℕ) (s t : List ℕ) → Ascends 0 v s → Ascends 0 v t → Precedes s (t ++ v ∷ [])

@@ -9,7 +9,7 @@ use Rattle.lj_base.proofs.Ascending.{AllBelow-from_Has, Ascends-narrow, Has-from
 use Rattle.lj_base.proofs.Ascending.{Ascends-before, Ascends-get_or_below, Ascends-push, Ascends-wider, Has-below}
 use Rattle.lj_base.proofs.Ascending.{Has-last, Has-push, Has-push_cases, top_cases}
 use Rattle.lj_base.proofs.Lists.{take-by_last}
-use Rattle.lj_rank.proofs.Counting.{rank-below, rank-push}
+use Rattle.lj_rank.proofs.RankCounts.{rank-below, rank-push}
 
 -- a set of the block is below what the block is below
 pub Ascends-subset : (v t : ℕ) (b s : List ℕ) → Ascends 0 v b → IsSubset b t s → Ascends 0 v s

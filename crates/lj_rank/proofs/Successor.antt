@@ -7,7 +7,7 @@ use Rattle.lj_base.specs.Blocks.{Ascends, IsBlock}
 use Rattle.lj_base.specs.Colex.{choose}
 use Rattle.lj_base.proofs.Ascending.{Ascends-append, Ascends-drop, Ascends-get_or_below, Ascends-push, Ascends-wider}
 use Rattle.lj_rank.specs.Ranks.{rank_from, rank_of, IsFirstRun}
-use Rattle.lj_rank.proofs.Counting.{rank_from-append, rank-push, rank-below}
+use Rattle.lj_rank.proofs.RankCounts.{rank_from-append, rank-push, rank-below}
 
 -- points that follow each other from a on, at the places from j on
 rank-run : (j a m : ℕ) (s : List ℕ) → m ≤ length s → ((i : ℕ) → i < m → get_or s i 0 ≡ a + i)

@@ -1,8 +1,8 @@
 use Rattle.std.proofs.Common.{ap, arith, refl}
 use Rattle.lj_base.specs.Colex.{choose}
 use Rattle.lj_rank.specs.Ranks.{rank_of}
-use Rattle.lj_rank.proofs.Counting.{rank-below, rank-push}
-use Rattle.lj_rank.proofs.Listing.{sets-place}
+use Rattle.lj_rank.proofs.RankCounts.{rank-below, rank-push}
+use Rattle.lj_rank.proofs.SetList.{sets-place}
 use Rattle.lj_rank.proofs.laws.rank_law.Goals as goal
 
 pub returns : goal.returns

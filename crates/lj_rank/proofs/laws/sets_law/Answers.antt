@@ -1,5 +1,5 @@
 use Rattle.lj_base.proofs.Ascending.{length-sets}
-use Rattle.lj_rank.proofs.Listing.{members-sets}
+use Rattle.lj_rank.proofs.SetList.{members-sets}
 use Rattle.lj_rank.proofs.laws.sets_law.Goals as goal
 
 pub returns-clause-members : goal.returns-clause-members

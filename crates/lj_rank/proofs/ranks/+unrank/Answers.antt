@@ -4,8 +4,8 @@ use Rattle.lj_base.specs.Blocks.{IsBlock}
 use Rattle.lj_base.specs.Colex.{choose}
 use Rattle.lj_base.proofs.Ascending.{AllBelow-from_Ascends, Ascends-push}
 use Rattle.lj_rank.specs.Ranks.{rank_of}
-use Rattle.lj_rank.proofs.Counting.{choose-point, rank-push}
-use Rattle.lj_rank.proofs.Listing.{sets-place}
+use Rattle.lj_rank.proofs.RankCounts.{choose-point, rank-push}
+use Rattle.lj_rank.proofs.SetList.{sets-place}
 use Rattle.lj_rank.proofs.ranks.+unrank.Goals as goal
 
 pub loop-greatest-init : goal.loop-greatest-init

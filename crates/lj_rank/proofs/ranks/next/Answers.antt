@@ -3,7 +3,7 @@ use Rattle.std.proofs.lemmas.Bool.{false≢true}
 use Rattle.lj_base.specs.Blocks.{IsBlock}
 use Rattle.lj_base.specs.Colex.{choose}
 use Rattle.lj_rank.specs.Ranks.{rank_of}
-use Rattle.lj_rank.proofs.Counting.{rank-below}
+use Rattle.lj_rank.proofs.RankCounts.{rank-below}
 use Rattle.lj_base.proofs.Ascending.{Ascends-get_or_below}
 use Rattle.lj_rank.proofs.Successor.{rank-last, rank-successor, IsBlock-successor}
 use Rattle.lj_rank.proofs.ranks.next.Goals as goal

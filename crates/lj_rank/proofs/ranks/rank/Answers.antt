@@ -2,8 +2,8 @@ use Rattle.std.proofs.Common.{◌≡◌, ◌+◌, arith, ap, ◌∙◌, sym, ref
 use Rattle.std.proofs.lemmas.List.{take_all, length-take-le}
 use Rattle.lj_base.specs.Colex.{choose}
 use Rattle.lj_rank.specs.Ranks.{rank_of}
-use Rattle.lj_rank.proofs.Counting.{rank-below, rank-take_more}
-use Rattle.lj_rank.proofs.Listing.{sets-place}
+use Rattle.lj_rank.proofs.RankCounts.{rank-below, rank-take_more}
+use Rattle.lj_rank.proofs.SetList.{sets-place}
 use Rattle.lj_base.proofs.Ascending.{Ascends-take}
 use Rattle.lj_rank.proofs.ranks.rank.Goals as goal
 
