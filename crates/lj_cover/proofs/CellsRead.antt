@@ -24,6 +24,7 @@ use Rattle.lj_cover.proofs.CutsOfBlocks.{Ascends-cut, Within-cut, length-cut}
 use Rattle.lj_cover.proofs.PlacedBlocks.{length-Within}
 use Rattle.lj_cover.proofs.InducedRule.{Has-filter}
 use Rattle.lj_cover.proofs.BasesCover.{all_cover}
+use Rattle.lj_cover.proofs.RowsOfUploads.{Contains-later}
 
 part_cells_read : (frame : Top) (c : Triple) (v1 lo hi : ℕ) (parts : List Part) → 1 ≤ v1 → v1 < c.v → hi ≤ c.t
     → Chain lo hi parts → AllByRecursion (PartFits c v1) parts
@@ -201,9 +202,6 @@ single_parts_fit frame c v1 j l lo (suc n) f from to =
       );
       inside = (inside.0, (inside.1.0, rest.inside));
     }
-
-Contains-later : {X : Type 0} (y x : X) (xs : List X) → Contains xs x → Contains (y ∷ xs) x
-Contains-later y x xs h = (suc h.0, omega (arith, h.1), h.2)
 
 single_parts_have : (c : Triple) (v1 j l lo n : ℕ) → lo ≤ j → j < lo + n
     → Contains (flat_map (part_cells c v1) (single_parts c v1 j l lo n)) (triple v1 l j)

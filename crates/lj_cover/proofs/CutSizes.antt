@@ -1,6 +1,7 @@
 -- The sizes that the cuts of a list's blocks have, and how a row counts them.
 use Rattle.std.proofs.Common.{◌≡◌, ℕ, zero, suc, ◌+◌, ◌-◌, ◌<◌, ◌≤◌, ◌↔◌, ◌⊎◌, ◌≢◌, ◌||◌, Bool, true, false, cond, eqb}
-use Rattle.std.proofs.Common.{ltb, List, [], ◌∷◌, length, map, get_or, sum, refl, sym, ap, ap₂, ◌∙◌, subst, arith}
+use Rattle.std.proofs.Common.{ltb, List, [], ◌∷◌, length, map, get_or, sum, refl, sym, ap, ap₂, ◌∙◌, subst, subst₂}
+use Rattle.std.proofs.Common.{arith}
 use Rattle.std.proofs.Common.{zero-add, inl, inr, ⊎_elim}
 use Rattle.std.proofs.lemmas.Bool.{cases_lt, cond_both, cond-false, eq-eqb, eqb-true, false≢true, lt-ltb, le-ltb}
 use Rattle.std.proofs.lemmas.Bool.{ne_eqb, or_cases, or_left, or_right}
@@ -9,7 +10,7 @@ use Rattle.std.proofs.lemmas.List.Sums.{sum_by-cons}
 use Rattle.std.specs.List.{Contains, count_by, filter, list_any, range_with_len}
 use Rattle.lj_base.specs.Blocks.{AreBlocks, Ascends, Has}
 use Rattle.lj_base.proofs.Ascending.{Ascends-range, Ascends-wider, Has-from, Has-range, length-ascending}
-use Rattle.lj_cover.specs.BlockLists.{at_size, cut_sizes}
+use Rattle.lj_cover.specs.BlockLists.{cut_sizes}
 use Rattle.lj_cover.specs.Cuts.{IsCutSize, sizes_in}
 use Rattle.lj_cover.specs.Instances.{cut_counts}
 use Rattle.lj_cover.specs.Operations.{cut}
@@ -98,14 +99,6 @@ sizes_ascend k w bs small =
     (subst (λ v. Ascends (suc k) v (cut_sizes k w bs)) last
     (Ascends-filter (is_size w bs) (suc k) (suc k + (w - k)) (range_with_len (suc k) (w - k))
     (Ascends-range (suc k) (w - k))))
-
-pub at_size_is : {A : Type 0} (f : ℕ → A) (sizes : List ℕ) (d : A) (l : ℕ) → Has sizes l
-    → at_size sizes (map f sizes) d l ≡ f l
-at_size_is f [] d l has = absurd has
-at_size_is f (s ∷ ss) d l has =
-    cond_both (eqb s l) (f s) (at_size ss (map f ss) d l) (λ x. x ≡ f l)
-    (λ e. ap f (eqb-true s l e))
-    (λ e. at_size_is f ss d l (⊎_elim (λ same. absurd (false≢true (sym e ∙ eq-eqb s l same))) (λ rest. rest) has))
 
 -- The counts of a row.
 
@@ -264,3 +257,15 @@ sizes_by_row v m k w bs blocks small =
     too_large l large =
         let none = count_none v m w l bs blocks large in
         any_from_count (λ b. eqb (length (cut w b)) l) bs ∙ ap (ltb 0) none ∙ le-ltb 0 0 (omega arith)
+
+-- no size is above 25
+pub sizes_small : (v m k w : ℕ) (bs : List (List ℕ)) → AreBlocks v m bs → m ≤ 25 → k ≤ 25
+    → Ascends (k + 1) 26 (cut_sizes k w bs)
+sizes_small v m k w bs blocks small few =
+    let first : suc k ≡ k + 1 = omega arith in
+    let last : suc k + (25 - k) ≡ 26 = omega arith in
+    let counted = λ (l : ℕ). ltb 0 (get_or (cut_counts w bs) l 0) in
+    subst (Ascends (k + 1) 26) (sym (sizes_by_row v m k w bs blocks small))
+    (subst₂ (λ lo top. Ascends lo top (filter counted (range_with_len (suc k) (25 - k)))) first last
+    (Ascends-filter counted (suc k) (suc k + (25 - k)) (range_with_len (suc k) (25 - k))
+    (Ascends-range (suc k) (25 - k))))

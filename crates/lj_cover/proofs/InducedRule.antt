@@ -2,7 +2,7 @@
 use Rattle.std.proofs.Common.{◌≡◌, ℕ, suc, ◌-◌, ◌<◌, ◌≤◌, Bool, true, false, eqb, ltb, leb, List, [], ◌∷◌, length, map}
 use Rattle.std.proofs.Common.{slice_index, refl, sym, ap, ◌∙◌, subst, arith, inl, inr, ⊎_elim}
 use Rattle.std.proofs.lemmas.Bool.{cond_both, cond-true, cond-false, eqb-true, eq-eqb, le-ltb, leb-true, leb-false}
-use Rattle.std.proofs.lemmas.Bool.{or_left, or_right}
+use Rattle.std.proofs.lemmas.Bool.{false≢true, or_left, or_right}
 use Rattle.std.specs.List.{AllByRecursion, AllZip, filter, flat_map, list_any, range_with_len}
 use Rattle.lj_base.specs.Blocks.{Ascends, IsBlock, Has, Within, SomeContains, AreBlocks, Covers}
 use Rattle.lj_base.proofs.Ascending.{Ascends-wider, Has-range, SomeContains-append_left, SomeContains-append_right}
@@ -59,6 +59,15 @@ cut_sizes_have v m k w bs h =
               (eq-eqb (length (cut w b)) (length (cut w b)) refl))
               (Has-range (suc k) (w - k) (length (cut w b)) more (omega arith)),
         )
+
+-- what stands at one of the sizes, where it was made of them
+pub at_size_is : {A : Type 0} (f : ℕ → A) (sizes : List ℕ) (d : A) (l : ℕ) → Has sizes l
+    → at_size sizes (map f sizes) d l ≡ f l
+at_size_is f [] d l has = absurd has
+at_size_is f (s ∷ ss) d l has =
+    cond_both (eqb s l) (f s) (at_size ss (map f ss) d l) (λ x. x ≡ f l)
+    (λ e. ap f (eqb-true s l e))
+    (λ e. at_size_is f ss d l (⊎_elim (λ same. absurd (false≢true (sym e ∙ eq-eqb s l same))) (λ rest. rest) has))
 
 -- the list that stands at a size covers that size's cell
 at_size_covers : (k t : ℕ) (sizes : List ℕ) (lists : List (List (List ℕ))) (l : ℕ)

@@ -1,40 +1,23 @@
 -- The price of an induced instance depends on its upload by the row alone.
-use Rattle.std.proofs.Common.{◌≡◌, ℕ, zero, suc, ◌+◌, ◌*◌, ◌<◌, ◌≤◌, Bool, true, false, cond, eqb, ltb, leb, List, []}
+use Rattle.std.proofs.Common.{◌≡◌, ℕ, zero, suc, ◌+◌, ◌*◌, ◌<◌, ◌≤◌, false, cond, eqb, List, []}
 use Rattle.std.proofs.Common.{◌∷◌, length, map, refl, sym, ap, ap₂, ◌∙◌, subst, arith, ⊎_elim}
-use Rattle.std.proofs.lemmas.Bool.{cond-true, cond-false, cases_eq, eq-eqb, ne_eqb, leb-false}
+use Rattle.std.proofs.lemmas.Bool.{cases_eq, eq-eqb, ne_eqb}
 use Rattle.std.proofs.lemmas.List.Sums.{sum_by-cons}
 use Rattle.std.specs.List.{AllByRecursion, count_by, range_with_len, sum_by}
 use Rattle.lj_base.specs.Cells.{Triple}
-use Rattle.lj_base.specs.Blocks.{AreBlocks, Has, IsBlock}
+use Rattle.lj_base.specs.Blocks.{AreBlocks, IsBlock}
 use Rattle.lj_base.proofs.Lists.{AllByRecursion-weaker, map-map, sum_by-each}
 use Rattle.lj_cover.specs.Operations.{cut}
 use Rattle.lj_cover.specs.BlockLists.{at_size, cut_sizes}
 use Rattle.lj_cover.specs.Rules.{Upload, Induced, cut_cost, triple}
 use Rattle.lj_cover.specs.Instances.{price, cut_counts, row_price, row_price_from}
 use Rattle.lj_cover.proofs.CutsOfBlocks.{length-cut}
-use Rattle.lj_cover.proofs.InducedRule.{HasSize, cut_sizes_have}
+use Rattle.lj_cover.proofs.InducedRule.{HasSize, at_size_is, cut_sizes_have}
+use Rattle.lj_cover.proofs.BlockwiseRules.{cost_of_larger}
 
 -- what one cut of l points costs, by the number of its cell
 abbrev unit_price : (Triple → ℕ) → ℕ → ℕ → ℕ → ℕ
 unit_price bounds k t l = cut_cost t k (bounds (triple l k t)) l
-
-pub at_size-bounds : (f : ℕ → ℕ) (sizes : List ℕ) (l : ℕ) → Has sizes l → at_size sizes (map f sizes) 0 l ≡ f l
-at_size-bounds f [] l has = absurd has
-at_size-bounds f (s ∷ ss) l has =
-    ⊎_elim
-    (λ same. cond-true (eqb s l) (f s) _ (eq-eqb s l same) ∙ ap f same)
-    (λ other. cond-false (eqb s l) (f s) _ (ne_eqb s l other) ∙ at_size-bounds f ss l
-    (⊎_elim (λ same. absurd (other same)) (λ r. r) has))
-    (cases_eq s l)
-
--- the child's number counts for sizes above k alone
-cut_cost-same : (t k m n l : ℕ) → (k < l → m ≡ n) → cut_cost t k m l ≡ cut_cost t k n l
-cut_cost-same t k m n l e = three (ltb l t) (leb l k) refl
-  where
-    three : (a b : Bool) → leb l k ≡ b → cond a 0 (cond b 1 m) ≡ cond a 0 (cond b 1 n)
-    three true b q = refl
-    three false true q = refl
-    three false false q = e (leb-false l k q)
 
 -- the counts for n sizes from lo on
 abbrev counts_from : ℕ → ℕ → ℕ → List (List ℕ) → List ℕ
@@ -125,9 +108,9 @@ price_by_row bounds u w k small blocks =
     each : (b : List ℕ) → HasSize k w sizes b → cut_cost t k
         (at_size sizes (map bounds (map (λ l. triple l k t) sizes)) 0 (length (cut w b)))
         (length (cut w b)) ≡ unit_price bounds k t (length (cut w b))
-    each b has = cut_cost-same t k _ _ (length (cut w b))
+    each b has = cost_of_larger t k _ _ (length (cut w b))
         (λ more. ap (λ ns. at_size sizes ns 0 (length (cut w b))) (map-map bounds (λ l. triple l k t) sizes)
-        ∙ at_size-bounds (λ l. bounds (triple l k t)) sizes (length (cut w b)) (has.1 more))
+        ∙ at_size_is (λ l. bounds (triple l k t)) sizes 0 (length (cut w b)) (has.1 more))
 
 -- uploads with one row have one price
 pub price_of_row : (bounds : Triple → ℕ) (u a : Upload) (w k : ℕ) → u.cell.k ≤ 25 → a.cell.k ≤ 25

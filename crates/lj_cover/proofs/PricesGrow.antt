@@ -15,7 +15,7 @@ use Rattle.lj_cover.specs.Rules.{Rule, Part, One, Runs, All, Leaf, Derived, Deri
 use Rattle.lj_cover.specs.Rules.{Induced, Condition, rule_children, cut_cost, part_cells, rule_cost, sum_of_products}
 use Rattle.lj_cover.specs.Rules.{triple}
 use Rattle.lj_cover.specs.Instances.{price}
-use Rattle.lj_cover.proofs.PricesByRow.{at_size-bounds}
+use Rattle.lj_cover.proofs.InducedRule.{at_size_is}
 
 AllByRecursion-from_Has : (P : ℕ → Type 0) (xs : List ℕ) → ((x : ℕ) → Has xs x → P x) → AllByRecursion P xs
 AllByRecursion-from_Has P [] each = tt
@@ -64,8 +64,8 @@ size_in_price bounds t k w l bs small has =
     let above = Has-from (suc k) (suc k + (w - k)) l (range_with_len (suc k) (w - k))
     (Ascends-range (suc k) (w - k)) member.member in
     let child : at_size sizes (map bounds (map (λ s. triple s k t) sizes)) 0 l ≡ bounds (triple l k t) =
-    ap (λ ns. at_size sizes ns 0 l) (map-map bounds (λ s. triple s k t) sizes) ∙ at_size-bounds
-    (λ s. bounds (triple s k t)) sizes l has in
+    ap (λ ns. at_size sizes ns 0 l) (map-map bounds (λ s. triple s k t) sizes) ∙ at_size_is
+    (λ s. bounds (triple s k t)) sizes 0 l has in
     let g = λ (m : ℕ). cut_cost t k (at_size sizes (map bounds (map (λ s. triple s k t) sizes)) 0 m) m in
     let here = cut_cost-child t k (at_size sizes (map bounds (map (λ s. triple s k t) sizes)) 0 l) l small above in
     let within : g l ≤ sum_by (λ b. g (length (cut w b))) bs = term_in_sum w l g bs member.passes in

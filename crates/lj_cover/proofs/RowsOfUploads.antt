@@ -14,7 +14,7 @@ use Rattle.lj_cover.specs.Rules.{Upload}
 Contains-first : {X : Type 0} (x : X) (xs : List X) → Contains (x ∷ xs) x
 Contains-first x xs = (0, omega arith, refl)
 
-Contains-later : {X : Type 0} (x y : X) (xs : List X) → Contains xs y → Contains (x ∷ xs) y
+pub Contains-later : {X : Type 0} (x y : X) (xs : List X) → Contains xs y → Contains (x ∷ xs) y
 Contains-later x y xs h = (suc h.0, omega (arith, h.1), h.2)
 
 Contains-cases : {X : Type 0} (x y : X) (xs : List X) → Contains (x ∷ xs) y → (x ≡ y) ⊎ Contains xs y
@@ -191,7 +191,12 @@ same_rows lo v (x ∷ xs) (y ∷ ys) h k into back =
     let first : x ≡ y =
     ⊎_elim (λ same. sym same)
     (λ after. ⊎_elim (λ same. same)
-    (λ other. absurd (omega (arith, place_from (suc y.upload) v ys x k.2 after, place_from (suc x.upload) v xs y h.2 other)))
+    (λ other. absurd (omega (
+      arith,
+      place_from (suc y.upload) v ys x k.2 after,
+      place_from
+          (suc x.upload) v xs y h.2 other,
+    )))
     (Contains-cases x y xs (back y (Contains-first y ys))))
     (Contains-cases y x ys (into x (Contains-first x xs))) in
     let place = ap (λ (q : Row). q.upload) first in

@@ -28,6 +28,8 @@ pub fn sizes_of_cuts()
     ensures sizes { (v m k w l : ℕ) (bs : List (List ℕ)) → AreBlocks v m bs
         → Has (cut_sizes k w bs) l ↔ IsCutSize k w bs l }
     ensures ascend { (k w : ℕ) (bs : List (List ℕ)) → k ≤ w → Ascends (k + 1) (w + 1) (cut_sizes k w bs) }
+    ensures small { (v m k w : ℕ) (bs : List (List ℕ)) → AreBlocks v m bs → m ≤ 25 → k ≤ 25
+        → Ascends (k + 1) 26 (cut_sizes k w bs) }
     ensures by_row { (v m k w : ℕ) (bs : List (List ℕ)) → AreBlocks v m bs → m ≤ 25
         → cut_sizes k w bs ≡ sizes_in k (cut_counts w bs) }
     ensures costs { (f : ℕ → ℕ) (sizes : List ℕ) (l : ℕ) → Has sizes l → at_size sizes (map f sizes) 0 l ≡ f l }
