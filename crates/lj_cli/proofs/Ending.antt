@@ -40,7 +40,12 @@ pub small : (output : List ℕ → List ℕ → ℕ → Type 0) (i : Input) (o :
 small output i o ended (inl h) =
     IfSome_then i.left (whole_is i.left i.left_now h.bytes h.read.taken h.at_end) (λ all is few quiet calm.
     let done = printed o h.text h.status ended h.printed calm in
-    inl (h.text, subst (λ b. output b h.text ended) is (subst (λ n. output h.bytes h.text n) (sym done.0) h.says), done.1))
+    inl (
+      h.text,
+      subst (λ b. output b h.text ended) is
+          (subst (λ n. output h.bytes h.text n) (sym done.0) h.says),
+      done.1,
+    ))
 small output i o ended (inr (inl h)) =
     let over = h.read.more in
     IfSome_then i.left (front_is i.left i.left_now h.read.bytes h.read.read.taken)

@@ -24,8 +24,9 @@ abbrev pub IsInputRefusal : Refusal → Type 0
 IsInputRefusal Memory = ⊥
 IsInputRefusal refusal = Unit {0}
 
--- what holds of the bytes of an input, for a cell: they have this first fault; or they are blocks that exceed this first
--- limit, or that leave this first set uncovered; or they are blocks within the limits that cover, and are this many
+-- what holds of the bytes of an input, for a cell: they have this first fault; or they are blocks that exceed this
+-- first limit, or that leave this first set uncovered; or they are blocks within the limits that cover, and these are
+-- as many
 abbrev pub IsVerdict : Triple → List ℕ → Verdict → Type 0
 IsVerdict c bytes (Fault fault) = IsBodyFault bytes c.v c.k fault × IsInputFault fault
 IsVerdict c bytes (Refused refusal) =

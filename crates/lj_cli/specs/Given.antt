@@ -58,7 +58,8 @@ abbrev pub given_by : List (List ℕ) → Option Gift
 given_by [] = Some nothing
 given_by (word ∷ []) = word_gives (kind_of word) word (Some nothing) (Some nothing) None
 given_by (word ∷ (next ∷ words)) =
-    word_gives (kind_of word) word (all_numbers (next ∷ words)) (given_by (next ∷ words)) (with_workers (number_of next) (given_by words))
+    word_gives (kind_of word) word (all_numbers (next ∷ words)) (given_by (next ∷ words))
+    (with_workers (number_of next) (given_by words))
 
 -- no command takes more
 abbrev pub IsFew : Gift → Type 0
@@ -67,4 +68,8 @@ IsFew g = (length g.numbers ≤ 3) × (length g.workers ≤ 1) × (g.json ≤ 1)
 -- what was given before, and what comes
 abbrev pub joined : Gift → Option Gift → Option Gift
 joined g None = None
-joined g (Some h) = Some (record { numbers = g.numbers ++ h.numbers; workers = g.workers ++ h.workers; json = g.json + h.json })
+joined g (Some h) = Some (record {
+  numbers = g.numbers ++ h.numbers;
+  workers = g.workers ++ h.workers;
+  json = g.json + h.json;
+})

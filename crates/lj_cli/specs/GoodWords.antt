@@ -18,7 +18,8 @@ SaysWorkers (m ∷ (l ∷ ms)) n = ⊥
 -- check V K T [--workers N]
 abbrev pub IsCheckCall : Gift → CheckCall → Type 0
 IsCheckCall g call = let cell = call.cell in
-    (g.numbers ≡ cell.v ∷ cell.k ∷ cell.t ∷ []) × IsCell cell × (1 ≤ cell.k) × SaysWorkers g.workers call.workers × (g.json ≡ 0)
+    (g.numbers ≡ cell.v ∷ cell.k ∷ cell.t ∷ []) × IsCell cell × (1 ≤ cell.k)
+    × SaysWorkers g.workers call.workers × (g.json ≡ 0)
 
 -- these words call for this check
 abbrev pub GoodWords : List (List ℕ) → CheckCall → Type 0

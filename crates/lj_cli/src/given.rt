@@ -24,7 +24,11 @@ impl Model for Given {
 
     ghost Value = { Gift };
 
-    ghost view = { λ g. record { numbers = take g.count g.numbers; workers = option_to_list g.workers; json = if g.json then 1 else 0 } };
+    ghost view = { λ g. record {
+      numbers = take g.count g.numbers;
+      workers = option_to_list g.workers;
+      json = if g.json then 1 else 0;
+    } };
 
     ghost invariant = { λ g. g.count ≤ 3 };
 }
@@ -75,7 +79,8 @@ impl Given {
     }
 
     fn add_number(&mut self, word: &[u8]) -> Option<()>
-        ensures some { IfSome result (λ _. (n : ℕ) × (number_of word.now ≡ Some n) × (self.new ≡ record self.old { numbers = self.old.numbers ++ n ∷ [] })) }
+        ensures some { IfSome result (λ _. (n : ℕ) × (number_of word.now ≡ Some n)
+            × (self.new ≡ record self.old { numbers = self.old.numbers ++ n ∷ [] })) }
         ensures none { IfNone result ((number_of word.now ≡ None) ⊎ (length self.old.numbers ≡ 3)) }
     {
         let n = number(word).ok()?;
@@ -88,7 +93,8 @@ impl Given {
     }
 
     fn add_workers(&mut self, word: &[u8]) -> Option<()>
-        ensures some { IfSome result (λ _. (n : ℕ) × (number_of word.now ≡ Some n) × (self.new ≡ record self.old { workers = self.old.workers ++ n ∷ [] })) }
+        ensures some { IfSome result (λ _. (n : ℕ) × (number_of word.now ≡ Some n)
+            × (self.new ≡ record self.old { workers = self.old.workers ++ n ∷ [] })) }
         ensures none { IfNone result ((number_of word.now ≡ None) ⊎ (length self.old.workers ≡ 1)) }
     {
         let n = number(word).ok()?;
@@ -130,8 +136,10 @@ pub fn read_given(words: &[String]) -> Option<Given>
 // Returns how many of the words after it were taken.
 fn add_first(given: &mut Given, word: &[u8], rest: &[String]) -> Option<usize>
     ensures some { IfSome result (λ n. (n ≤ length rest.now)
-        × (joined given.old (given_by (word.now ∷ texts rest.now)) ≡ joined given.new (given_by (texts (drop n rest.now))))) }
-    ensures none { IfNone result (IfSome (joined given.old (given_by (word.now ∷ texts rest.now))) (λ g. IsFew g → ⊥)) }
+        × (joined given.old (given_by (word.now ∷ texts rest.now))
+            ≡ joined given.new (given_by (texts (drop n rest.now))))) }
+    ensures none { IfNone result
+        (IfSome (joined given.old (given_by (word.now ∷ texts rest.now))) (λ g. IsFew g → ⊥)) }
 {
     match kind_of(word) {
         Kind::End => {

@@ -12,8 +12,8 @@ pub fn words_law()
     ensures { (words : _) (c d : _) → GoodWords words c → GoodWords words d → c ≡ d }
 {}
 
-/// Of an input that its source reports: where no read and no write fails, a check of an input within the limit ends with
-/// its status and its text, and one of a larger input as that; or memory runs out.
+/// Of an input that its source reports, where no read and no write fails: a check of an input within the limit ends
+/// with its text and status, and a larger input is refused as too large; or memory runs out.
 pub fn complete_law()
     ensures small { (c : _) (i : _) (o : _) (ended : _) → Ends (IsCheckOutput c) i o ended → IfSome i.left (λ all.
         length all ≤ MAX_INPUT → (Rose i.faults i.faults_now → ⊥) → (Rose o.faults o.faults_now → ⊥) →

@@ -1,10 +1,10 @@
-ghost use Rattle.std.specs.Prelude.{◌≡◌, ◌++◌, decimal, IfOk, OnOk};
-ghost use Rattle.lj_cli.specs.Verdicts.{body_fault_text, line_fault_text, verdict_line, verdict_status, verdict_text};
+ghost use Rattle.std.specs.Prelude.{◌≡◌, ◌++◌, IfOk, OnOk};
+ghost use Rattle.lj_cli.specs.Verdicts.{verdict_line, verdict_status, verdict_text};
 
 use crate::status::{DONE, FAULTY, UNCOVERED};
 use lj_base::Memory;
-use lj_blockfile::{BodyFault, LineFault};
-use lj_text::{put, put_named, put_number};
+use lj_blockfile::{BodyFault, put_body_fault};
+use lj_text::{put, put_named};
 use lj_verify::{Refusal, put_refusal};
 use std::alloc::Global;
 
@@ -51,41 +51,6 @@ impl Verdict {
     }
 }
 
-fn put_body_fault(out: &mut Vec<u8>, fault: &BodyFault) -> Result<(), Memory>
-    ensures { OnOk result (out.new.items ≡ out.old.items ++ body_fault_text fault.now) }
-{
-    match fault {
-        BodyFault::Blocks { n } => put_counted(out, b"blocks ", *n),
-        BodyFault::Line { number, fault } => {
-            put_counted(out, b"line ", *number)?;
-            put(out, b" ")?;
-            put_line_fault(out, fault)
-        }
-        BodyFault::Memory => Ok(()),
-    }
-}
-
-fn put_line_fault(out: &mut Vec<u8>, fault: &LineFault) -> Result<(), Memory>
-    ensures { OnOk result (out.new.items ≡ out.old.items ++ line_fault_text fault.now) }
-{
-    match fault {
-        LineFault::NotNumber { column } => {
-            put_counted(out, b"column ", *column)?;
-            put(out, b" not a number")
-        }
-        LineFault::PointRange { value } => {
-            put_counted(out, b"point ", *value)?;
-            put(out, b" out of range")
-        }
-        LineFault::Repeat { point } => {
-            put_counted(out, b"point ", *point)?;
-            put(out, b" repeated")
-        }
-        LineFault::Short { count } => put_counted(out, b"too few points ", *count),
-        LineFault::Long { count } => put_counted(out, b"too many points ", *count),
-    }
-}
-
 // The words for a refusal, with `fault ` before those of a limit.
 fn put_refused(out: &mut Vec<u8>, refusal: &Refusal) -> Result<(), Memory>
     ensures { OnOk result (out.new.items ≡ out.old.items ++ verdict_line (Verdict.Refused refusal.now)) }
@@ -95,12 +60,4 @@ fn put_refused(out: &mut Vec<u8>, refusal: &Refusal) -> Result<(), Memory>
     }
     put(out, b"fault ")?;
     put_refusal(out, refusal)
-}
-
-// A word and a number.
-fn put_counted(out: &mut Vec<u8>, word: &[u8], n: u64) -> Result<(), Memory>
-    ensures { OnOk result (out.new.items ≡ out.old.items ++ (word.now ++ decimal n)) }
-{
-    put(out, word)?;
-    put_number(out, n)
 }

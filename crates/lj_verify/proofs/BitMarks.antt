@@ -164,6 +164,21 @@ marks_bits start rank bits a b c fits one two =
     (IsInWord (rank / 64 + 1) (bits / 2 / 2 ^ (63 - rank % 64))) (IsAtBit rank bits)
     one two (λ r. low_word rank bits r) (λ r. high_word rank bits r fits) (λ r. two_words rank bits r)
 
+-- bits that are marked from a bit of the word at a place on
+pub marks_bits_at : (start place shift bits : ℕ) (a b c : List ℕ) → shift < 64 → bits < 2 ^ 64
+    → Marks start a b (IsInWord place (bits * 2 ^ shift % 2 ^ 64))
+    → Marks start b c (IsInWord (place + 1) (bits / 2 / 2 ^ (63 - shift)))
+    → Marks start a c (IsAtBit (64 * place + shift) bits)
+marks_bits_at start place shift bits a b c few fits one two =
+    let rank = 64 * place + shift in
+    let word : place ≡ rank / 64 = omega arith in
+    let bit : shift ≡ rank % 64 = omega arith in
+    marks_bits start rank bits a b c fits
+    (subst (λ p. Marks start a b (IsInWord p (bits * 2 ^ (rank % 64) % 2 ^ 64))) word
+    (subst (λ s. Marks start a b (IsInWord place (bits * 2 ^ s % 2 ^ 64))) bit one))
+    (subst (λ p. Marks start b c (IsInWord (p + 1) (bits / 2 / 2 ^ (63 - rank % 64)))) word
+    (subst (λ s. Marks start b c (IsInWord (place + 1) (bits / 2 / 2 ^ (63 - s)))) bit two))
+
 -- the points of both halves
 pub marks_points : (start rank low high : ℕ) (a b c : List ℕ) → Marks start a b (IsAtBit rank low)
     → Marks start b c (IsAtBit (rank + 64) high)

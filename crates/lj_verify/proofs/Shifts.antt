@@ -353,3 +353,18 @@ pub mask_is : (left : ℕ) → left < 64 → 2 ^ left ≡ 1 * 2 ^ left % 2 ^ 64
 mask_is left few =
     let power = pow-le-pow_right {n = 2} (omega arith) {i = left} {j = 63} (omega arith) in
     omega (arith, power)
+
+-- what was marked in the words that hold a prefix
+pub marks_in_part : (start place end rank bits : ℕ) (words ys string : List ℕ) → place ≡ rank / 64
+    → end ≡ place + bits / 64 + 2 → start ≤ place → end ≤ start + length words
+    → Marks place (take (end - start - (place - start)) (drop (place - start) words)) ys (IsAtPrefix rank string bits)
+    → Marks start words (put_mid (place - start) (end - start - (place - start)) words ys) (IsAtPrefix rank string bits)
+marks_in_part start place end rank bits words ys string is last from to h =
+    let a = place - start in
+    let k = end - start - (place - start) in
+    let P = IsAtPrefix rank string bits in
+    let begin : place ≡ start + a = omega arith in
+    marks_same start words (put_mid a k words ys) (IsInPart (start + a) k P) P
+    (marks_part start a k words ys P (omega arith) (subst (λ n. Marks n (take k (drop a words)) ys P) begin h))
+    (λ r p. p.2)
+    (λ r low high p. let few = p.1 in let at = p.3 in (omega arith, omega arith, p))

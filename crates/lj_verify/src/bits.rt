@@ -5,10 +5,40 @@ ghost use Rattle.lj_verify.specs.Marks.{IsAtBit, IsAtPrefix, IsBetween, Marks, s
 // Bits that are marked in the words of a range of ranks, of which the first has the ranks from `64 * start` on. What
 // lies outside the range is passed over.
 
-// Marks the rank of each of the first bits of the string that is set, from the rank of bit 0. Cost: a step for each
-// word of the prefix that lies in the range.
+/// Marks the rank of each of the first bits of the string that is set, from the rank of bit 0. Cost: a step for each
+/// word of the prefix that lies in the range.
 #[inline(always)]
 pub(crate) fn mark_prefix(words: &mut [u64], start: u64, rank: u64, string: &[u64], bits: u64)
+    requires few_words { start + length words.old ≤ 2 ^ 32 }
+    requires fits { rank ≤ 2 ^ 43 }
+    requires few { bits ≤ 2 ^ 38 }
+    requires room { bits ≤ 64 * length string.now }
+    ensures { Marks start words.old words.new (IsAtPrefix rank string.now bits) }
+{
+    let place = rank / 64;
+    let end = place + bits / 64 + 2;
+    if place < start || end > start + words.len() as u64 {
+        return mark_at_edge(words, start, rank, string, bits);
+    }
+    let part = &mut words[(place - start) as usize..(end - start) as usize];
+    mark_each(part, place, rank, string, bits);
+}
+
+// Marks the prefix where a part of it may lie outside the range.
+#[inline(never)]
+fn mark_at_edge(words: &mut [u64], start: u64, rank: u64, string: &[u64], bits: u64)
+    requires few_words { start + length words.old ≤ 2 ^ 32 }
+    requires fits { rank ≤ 2 ^ 43 }
+    requires few { bits ≤ 2 ^ 38 }
+    requires room { bits ≤ 64 * length string.now }
+    ensures { Marks start words.old words.new (IsAtPrefix rank string.now bits) }
+{
+    mark_each(words, start, rank, string, bits);
+}
+
+// Marks the prefix, word by word. In words that just hold it no test of a place is left after inlining.
+#[inline(always)]
+fn mark_each(words: &mut [u64], start: u64, rank: u64, string: &[u64], bits: u64)
     requires few_words { start + length words.old ≤ 2 ^ 32 }
     requires fits { rank ≤ 2 ^ 43 }
     requires few { bits ≤ 2 ^ 38 }
@@ -21,12 +51,8 @@ pub(crate) fn mark_prefix(words: &mut [u64], start: u64, rank: u64, string: &[u6
         mark_words(words, start, rank, &string[..full as usize]);
     }
     if left > 0 {
-        mark_bits(
-            words,
-            start,
-            rank + 64 * full,
-            string[full as usize] & ((1 << left) - 1),
-        );
+        let last = string[full as usize] & ((1 << left) - 1);
+        mark_bits_at(words, start, rank / 64 + full, rank % 64, last);
     }
 }
 
@@ -97,8 +123,17 @@ pub(crate) fn mark_bits(words: &mut [u64], start: u64, rank: u64, bits: u64)
     requires fits { rank ≤ 2 ^ 44 }
     ensures { Marks start words.old words.new (IsAtBit rank bits) }
 {
-    let place = rank / 64;
-    let shift = rank % 64;
+    mark_bits_at(words, start, rank / 64, rank % 64, bits);
+}
+
+// Marks the rank of each bit that is set, where bit 0 has the rank of a bit of the word at a place.
+#[inline(always)]
+fn mark_bits_at(words: &mut [u64], start: u64, place: u64, shift: u64, bits: u64)
+    requires few_words { start + length words.old ≤ 2 ^ 32 }
+    requires fits { place ≤ 2 ^ 40 }
+    requires shift { shift < 64 }
+    ensures { Marks start words.old words.new (IsAtBit (64 * place + shift) bits) }
+{
     mark_in_word(words, start, place, bits << shift);
     mark_in_word(words, start, place + 1, (bits >> 1) >> (63 - shift));
 }

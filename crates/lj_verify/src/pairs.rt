@@ -78,7 +78,7 @@ fn mark_among(words: &mut [u64], start: u64, block: &Block, n: u64, t: u64, rest
     for i in t - 1..n {
         let point = block.at(i) as u64;
         let least = rest + binom(point, t);
-        if least < high && low < rest + binom(point + 1, t) {
+        if least < high && low < least + binom(point, t - 1) {
             mark_among(words, start, block, i, t - 1, least);
         }
     }

@@ -149,7 +149,7 @@ fn mark_above(
     for i in t - 1..n {
         let point = block.at(i) as u64;
         let least = rest + binom(point, t);
-        if least < high && low < rest + binom(point + 1, t) {
+        if least < high && low < least + binom(point, t - 1) {
             mark_above(words, start, block, i, t - 1, size, least, string);
         }
     }
@@ -182,7 +182,7 @@ fn mark_prefixes(
     for i in 0..n {
         let point = block.at(i) as u64;
         let least = rest + binom(point, size + 1);
-        if least < high && low < rest + binom(point + 1, size + 1) {
+        if least < high && low < least + binom(point, size) {
             mark_prefix(words, start, least, string, binom(point, size));
         }
     }

@@ -1,7 +1,9 @@
-use Rattle.std.proofs.Common.{arith}
-use Rattle.lj_verify.proofs.BitMarks.{marks_bits}
+use Rattle.std.proofs.Common.{◌≡◌, ◌+◌, ◌*◌, ◌/◌, ◌%◌, arith, subst}
+use Rattle.lj_verify.specs.Marks.{IsAtBit, Marks}
 use Rattle.lj_verify.proofs.bits.mark_bits.Goals as goal
 
 pub returns : goal.returns
 returns c =
-    marks_bits c.args.start c.args.rank c.args.bits _ _ _ (omega arith) c.mark_in_word.ensures c.mark_in_word-2.ensures
+    let same : 64 * (c.args.rank / 64) + c.args.rank % 64 ≡ c.args.rank = omega arith in
+    subst (λ n. Marks c.args.start c.args.words.now c.mark_bits_at.new.words (IsAtBit n c.args.bits)) same
+    c.mark_bits_at.ensures

@@ -4,8 +4,8 @@ use Rattle.lj_base.specs.Colex.{choose}
 use Rattle.lj_verify.specs.Marks.{IsRankAmong, Marks}
 use Rattle.lj_verify.proofs.Runs.{marks_few, marks_more, marks_outside}
 use Rattle.lj_verify.proofs.strings.+mark_above.Goals as goal
-use Rattle.lj_verify.proofs.strings.+mark_above.Goals.{then-least-high+then-low-rest, else-least-high}
-use Rattle.lj_verify.proofs.strings.+mark_above.Goals.{else-least-high-via-then-least-high+else-low-rest}
+use Rattle.lj_verify.proofs.strings.+mark_above.Goals.{then-least-high+then-low-least, else-least-high}
+use Rattle.lj_verify.proofs.strings.+mark_above.Goals.{else-least-high-via-then-least-high+else-low-least}
 use Rattle.lj_verify.proofs.strings.+mark_above.Goals.{else-least-high-via-else-least-high}
 
 pub loop-i-init : goal.loop-i-init
@@ -40,7 +40,7 @@ loop-i-preserved t c =
     let outside = marks_outside c.set_laws.ensures start old b i c.args.t rest v c.requires.ascends within
     c.at-point.ensures some in
     elim c.if-least-high.branch [
-      | then-least-high+then-low-rest w ↦
+      | then-least-high+then-low-least w ↦
           subst (λ new. Marks start c.args.words.now new (IsRankAmong (take (i + 1) b) c.args.t rest)) (sym w.words-is)
           (more w.mark_above.new.words
           (subst (λ n. Marks start old w.mark_above.new.words (IsRankAmong (take i b) (c.args.t - 1) (rest + n))) least
@@ -48,9 +48,8 @@ loop-i-preserved t c =
       | else-least-high w ↦
           subst (λ new. Marks start c.args.words.now new (IsRankAmong (take (i + 1) b) c.args.t rest)) (sym w.words-is)
           (more old (outside (elim w.else-least-high.branch [
-            | else-least-high-via-then-least-high+else-low-rest w' ↦ inr
-                (let past = w'.binom-then-least-high.ensures.value in let before = w'.if-low-rest.false in omega
-                (arith, past, before))
+            | else-least-high-via-then-least-high+else-low-least w' ↦ inr
+                (let past = w'.binom-then-least-high.ensures.value in let before = w'.if-low-least.false in omega (arith, past, before, least))
             | else-least-high-via-else-least-high w' ↦ inl (let after =
                 w'.if-least-high.false in omega (arith, after, least, long))
           ])))
