@@ -2,7 +2,8 @@ ghost use Rattle.std.specs.Prelude.{◌≡◌, ℕ, List, IfOk, IsTrue};
 ghost use Rattle.lj_base.specs.Blocks.{Covers};
 ghost use Rattle.lj_base.specs.Cells.{Triple};
 ghost use Rattle.lj_cover.specs.Rules.{triple};
-ghost use Rattle.lj_samples.specs.Samples.{fano_lines, five_fives, four_triples, fourteen_planes, pairs_of_three, runs_of_two, three_fours};
+ghost use Rattle.lj_samples.specs.Samples.{fano_lines, five_fives, four_triples, fourteen_planes};
+ghost use Rattle.lj_samples.specs.Samples.{pairs_of_three, runs_of_two, three_fours};
 ghost use Rattle.lj_samples.specs.Tested.{covers};
 
 use crate::blocks::block;

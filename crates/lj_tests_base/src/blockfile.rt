@@ -1,5 +1,5 @@
 use lj_base::Memory;
-use lj_blockfile::{BodyFault, LineFault, read_block, read_blocks, write_block};
+use lj_blockfile::{BodyFault, LineFault, put_body_fault, read_block, read_blocks, write_block};
 use lj_samples::block_of;
 use std::alloc::Global;
 use std::test::Fail;
@@ -158,38 +158,48 @@ fn a_block_is_written_as_its_line(rt: HostRuntime) -> Result<(), Fail> {
 }
 
 #[test]
-fn faults_are_spelled(rt: HostRuntime) -> Result<(), Fail> {
+fn faults_have_their_words(rt: HostRuntime) -> Result<(), Fail> {
     let line = |fault| BodyFault::Line { number: 3, fault };
-    let rows: [(BodyFault, &str); 7] = [
+    // the fault, as an error and as a check prints it
+    let rows: [(BodyFault, &str, &[u8]); 7] = [
         (
             line(LineFault::NotNumber { column: 5 }),
             "line 3: column 5: not a number",
+            b"line 3 column 5 not a number",
         ),
         (
             line(LineFault::PointRange { value: 0 }),
             "line 3: point 0 is out of range",
+            b"line 3 point 0 out of range",
         ),
         (
             line(LineFault::Repeat { point: 2 }),
             "line 3: point 2 is repeated",
+            b"line 3 point 2 repeated",
         ),
         (
             line(LineFault::Short { count: 2 }),
             "line 3: too few points: 2",
+            b"line 3 too few points 2",
         ),
         (
             line(LineFault::Long { count: 4 }),
             "line 3: too many points: 4",
+            b"line 3 too many points 4",
         ),
         (
             BodyFault::Blocks { n: 100_001 },
             "100001 blocks are too many",
+            b"blocks 100001",
         ),
-        (BodyFault::Memory, "out of memory"),
+        (BodyFault::Memory, "out of memory", b""),
     ];
-    for (fault, want) in rows {
+    for (fault, error, words) in rows {
         let text = format!(in rt.alloc(); "{fault}")?;
-        assert_eq!(rt; text.as_str(), want);
+        assert_eq!(rt; text.as_str(), error);
+        let mut out = Vec::new(rt.alloc());
+        put_body_fault(&mut out, &fault)?;
+        assert_eq!(rt; out.as_slice(), words);
     }
     Ok(())
 }

@@ -3,7 +3,8 @@ ghost use Rattle.lj_cover.specs.Derivations.{IsDerivation, tree_cost, expand};
 ghost use Rattle.lj_cover.specs.Instances.{counts_at, cut_counts, row_price};
 ghost use Rattle.lj_cover.specs.Lower.{schonheim};
 ghost use Rattle.lj_cover.specs.Rules.{triple};
-ghost use Rattle.lj_tests_cover.specs.Examples.{five_fives, induced_example, interval_example, product_example, runs_example, three_fours, two_points_example};
+ghost use Rattle.lj_tests_cover.specs.Examples.{five_fives, induced_example, interval_example, product_example};
+ghost use Rattle.lj_tests_cover.specs.Examples.{runs_example, three_fours, two_points_example};
 
 use crate::rules_on_lists;
 use lj_base::{Block, Cell};

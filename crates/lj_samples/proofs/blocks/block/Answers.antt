@@ -10,6 +10,7 @@ push-requires c =
     let inside = c.loop-point-test.true in
     record {
       in_range = Ascends-get_or_below 0 99 points i c.requires.ascends inside;
-      greatest = subst (AllBelow _) (sym c.loop-point.invariant) (AllBelow-take 0 99 points i c.requires.ascends inside);
+      greatest =
+        subst (AllBelow _) (sym c.loop-point.invariant) (AllBelow-take 0 99 points i c.requires.ascends inside);
       room = omega (arith, ap length c.loop-point.invariant, length-take i points, c.requires.short);
     }
