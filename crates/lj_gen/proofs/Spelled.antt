@@ -3,7 +3,7 @@ use Rattle.std.proofs.Common.{◌≡◌, ℕ, suc, ◌+◌, ◌^◌, ◌<◌, �
 use Rattle.std.proofs.Common.{map, refl, sym, ap, ◌∙◌, arith, append_assoc, append-nil, length-append}
 use Rattle.std.specs.Prelude.{slice_range}
 use Rattle.std.specs.List.{AllByRecursion, AllZip}
-use Rattle.lj_base.specs.Blocks.{AreBlocks, Ascends, IsBlock}
+use Rattle.lj_base.specs.Blocks.{AreBlocks, IsBlock}
 use Rattle.lj_base.specs.Cells.{IsCell, Triple}
 use Rattle.lj_text.specs.Lines.{IsPlain, after_line, line_text, placed_from, text_lines, with_feeds}
 use Rattle.lj_text.specs.Numbers.{number_of}

@@ -23,7 +23,7 @@ use Rattle.lj_script.specs.declared.forms.Form.TheVariants.{Client, Upload as Of
 use Rattle.lj_script.specs.declared.scripts.Command.{Command}
 use Rattle.lj_script.specs.declared.scripts.Command.TheVariants.{Upload, UploadFile, Bound, Plan, Expand, Settle}
 
--- what is known of an `Ok` stays known behind a `map_err`
+-- what is known of an `Ok` stays known after a `map_err`
 pub OnOk-mapped : {T E F : Type 0} (P : Type 0) (Q : E → F → Type 0) (r : Result T E) (s : Result T F)
     → MatchResult r (λ x. s ≡ Ok x) (λ e. IsErrAnd s (Q e)) → OnOk r P → OnOk s P
 OnOk-mapped P Q (Ok x) (Ok y) h k = k

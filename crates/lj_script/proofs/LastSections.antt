@@ -30,7 +30,7 @@ with_command-at (s ∷ []) (suc i) d c e = absurd (omega arith)
 with_command-at (s ∷ (r ∷ ss)) zero d c e = absurd (omega arith)
 with_command-at (s ∷ (r ∷ ss)) (suc i) d c e = ap (λ rest. s ∷ rest) (with_command-at (r ∷ ss) i d c (omega arith))
 
--- an answer of a search for a section with a name
+-- the result of a search for a section with a name
 pub IsTrue-named : (found : Bool) (ss : List SectionValue) (name : List ℕ)
     → MatchBool found ((k : ℕ) × (k < length ss) × HoldsAt (λ s. s.name ≡ name) ss k)
     (AllWithin (λ s. s.name ≡ name → ⊥) ss 0 (length ss))

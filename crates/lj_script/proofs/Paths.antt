@@ -83,13 +83,13 @@ leads_by_commands bytes (c ∷ cs) is front s to lines middle rest h few leads =
     (sym (append_assoc s.commands (c ∷ []) cs)) in
     let others = subst (λ t. Leads bytes (front ++ t ∷ []) middle is to rest) all leads in
     let more : length next.commands + length cs ≤ MAX_COMMANDS = omega (arith, length-append s.commands (c ∷ [])) in
-    let behind = leads_by_commands bytes cs is front next to h.0 middle rest h.2 more others in
+    let later = leads_by_commands bytes cs is front next to h.0 middle rest h.2 more others in
     let room : length s.commands < MAX_COMMANDS = omega arith in (
       h.0,
       h.1,
       HasRoom-last front s room,
       subst (λ ss. Leads bytes ss h.0 (map new_command cs ++ is) to rest)
-          (sym one) behind,
+          (sym one) later,
     )
 
 -- the items of sections
@@ -121,11 +121,11 @@ leads_by_sections bytes (s ∷ ss) front used lines rest h known within few =
     (λ e. subst (λ m. Contains (s.name ∷ used) m) e (Contains-first s.name used)) (names-push front s n k) in
     let rest_leads = leads_by_sections bytes ss (front ++ s ∷ []) (s.name ∷ used) h.0 rest h.2 known_now more few.1 in
     let to : (front ++ s ∷ []) ++ ss ≡ front ++ s ∷ ss = append_assoc front (s ∷ []) ss in
-    let behind = subst (λ ts. Leads bytes (front ++ s ∷ []) h.0 (items_of ss) ts rest) to rest_leads in
+    let later = subst (λ ts. Leads bytes (front ++ s ∷ []) h.0 (items_of ss) ts rest) to rest_leads in
     let room : length front < MAX_CLIENTS = omega arith in (
       section.others,
       (section.first, section.begins),
       (λ k. section.fresh (known s.name k), room),
       leads_by_commands bytes s.commands (items_of ss) front begun
-          (front ++ s ∷ ss) section.others h.0 rest section.commands (omega (arith, few.0)) behind,
+          (front ++ s ∷ ss) section.others h.0 rest section.commands (omega (arith, few.0)) later,
     )

@@ -57,7 +57,7 @@ abbrev pub first_form : Item → Form
 first_form (new_client name) = Client name
 first_form (new_command c) = command_form c
 
--- what stands behind an item's first line
+-- what follows an item's first line
 abbrev Follows : List ℕ → Item → Line → List Line → List Line → Type 0
 Follows bytes (new_client name) first others rest = others ≡ rest
 Follows bytes (new_command c) first others rest = Completes bytes c first others rest
