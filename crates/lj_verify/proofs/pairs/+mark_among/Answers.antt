@@ -49,7 +49,8 @@ loop-i-preserved t c =
           subst (λ new. Marks start c.args.words.now new (IsRankAmong (take (i + 1) b) c.args.t rest)) (sym w.words-is)
           (more old (outside (elim w.else-least-high.branch [
             | else-least-high-via-then-least-high+else-low-least w' ↦ inr
-                (let past = w'.binom-then-least-high.ensures.value in let before = w'.if-low-least.false in omega (arith, past, before, least))
+                (let past = w'.binom-then-least-high.ensures.value in let before = w'.if-low-least.false in omega
+                (arith, past, before, least))
             | else-least-high-via-else-least-high w' ↦ inl (let after =
                 w'.if-least-high.false in omega (arith, after, least, long))
           ])))

@@ -71,7 +71,8 @@ loop-i-preserved c =
           subst (λ new. Marks start c.args.words.now new (IsRankAmong (take (i + 1) b) (s + 1) rest)) (sym w.words-is)
           (more old (outside (elim w.else-least-high.branch [
             | else-least-high-via-then-least-high+else-low-least w' ↦ inr
-                (let past = w'.binom-then-least-high.ensures.value in let before = w'.if-low-least.false in omega (arith, past, before, least, turn))
+                (let past = w'.binom-then-least-high.ensures.value in let before = w'.if-low-least.false in omega
+                (arith, past, before, least, turn))
             | else-least-high-via-else-least-high w' ↦ inl (let after =
                 w'.if-least-high.false in omega (arith, after, least, long))
           ])))
