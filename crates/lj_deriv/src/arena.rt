@@ -70,6 +70,7 @@ impl Arena {
         }
     }
 
+    /// The frame in which all its cells lie.
     pub fn frame(&self) -> Frame
         ensures { result ≡ self.now.frame }
     {

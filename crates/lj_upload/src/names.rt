@@ -47,6 +47,7 @@ impl Name {
         })
     }
 
+    /// Its bytes, in ASCII.
     pub fn bytes(&self) -> &[u8]
         ensures bytes { result.now ≡ self.now }
         ensures name { IsName self.now }
