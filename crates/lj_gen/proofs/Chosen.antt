@@ -1,7 +1,9 @@
 -- What the lists of choices are.
-use Rattle.std.proofs.Common.{◌≡◌, ℕ, zero, suc, ◌-◌, ◌^◌, ◌<◌, ◌==◌, All, List, [], ◌∷◌, filter, length, map, refl, ap, arith}
+use Rattle.std.proofs.Common.{◌≡◌, ℕ, zero, suc, ◌-◌, ◌^◌, ◌<◌, ◌==◌, All, List, [], ◌∷◌, filter, length, map, refl, ap}
+use Rattle.std.proofs.Common.{arith}
 use Rattle.std.proofs.lemmas.List.{map-id}
-use Rattle.std.proofs.lemmas.List.Elements.{All-append, All-cons, All-filter, All-map, All-nil, All-same, All-weaker, recursion_from_All}
+use Rattle.std.proofs.lemmas.List.Elements.{All-append, All-cons, All-filter, All-map, All-nil, All-same, All-weaker}
+use Rattle.std.proofs.lemmas.List.Elements.{recursion_from_All}
 use Rattle.lj_base.proofs.Ascending.{Ascends-wider}
 use Rattle.lj_base.specs.Blocks.{AreBlocks, Ascends, IsBlock}
 use Rattle.lj_gen.specs.Quadruples.{choices, completions, gen_blocks, xor_of}
@@ -26,7 +28,8 @@ are_choices (suc d) lo v (suc n) left =
     (choices (suc lo) v n) fewer) in
     let others : All P (choices (suc lo) v (suc n)) =
     All-weaker (IsChoice (suc lo) v (suc n)) P
-    (λ s h. (Ascends-wider (suc lo) lo v v s (omega arith) (omega arith) h.0, h.1)) (choices (suc lo) v (suc n)) later in
+    (λ s h. (Ascends-wider (suc lo) lo v v s (omega arith) (omega arith) h.0, h.1))
+    (choices (suc lo) v (suc n)) later in
     All-same P _ _ (choices-step lo v n some) (All-append P _ _ with_lo others)
 
 pub AreBlocks-gen_blocks : (m : ℕ) → AreBlocks (2 ^ m) 4 (gen_blocks m)

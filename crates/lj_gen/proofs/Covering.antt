@@ -1,5 +1,6 @@
 -- The quadruples with xor 0 cover each three points: with these goes the point that is their xor.
-use Rattle.std.proofs.Common.{◌≡◌, ℕ, zero, suc, ◌^◌, ◌<◌, ◌≤◌, ◌≢◌, Contains, List, [], ◌∷◌, bit_xor, inl, inr, ⊎_elim, refl, sym, ap, ◌∙◌, subst, arith}
+use Rattle.std.proofs.Common.{◌≡◌, ℕ, zero, suc, ◌^◌, ◌<◌, ◌≤◌, ◌≢◌, Contains, List, [], ◌∷◌, bit_xor, inl, inr, ⊎_elim}
+use Rattle.std.proofs.Common.{refl, sym, ap, ◌∙◌, subst, arith}
 use Rattle.std.proofs.lemmas.Bool.{cases_lt}
 use Rattle.std.proofs.lemmas.Nat.{xor_comm}
 use lib.Bits.{xor_assoc, xor_self, xor_zero_r}
@@ -23,7 +24,8 @@ swap_last q a b = xor_assoc q a b ∙ ap (bit_xor q) (xor_comm a b) ∙ sym (xor
 -- what leaves a number as it is is 0
 none_from_same : (q z : ℕ) → bit_xor q z ≡ z → q ≡ 0
 none_from_same q z h =
-    sym (xor_zero_r q) ∙ ap (bit_xor q) (sym (xor_self z)) ∙ sym (xor_assoc q z z) ∙ ap (λ n. bit_xor n z) h ∙ xor_self z
+    sym (xor_zero_r q) ∙ ap (bit_xor q) (sym (xor_self z)) ∙ sym (xor_assoc q z z) ∙ ap (λ n. bit_xor n z) h
+    ∙ xor_self z
 
 module _ (x y z : ℕ) (first : x < y) (second : y < z) where
   abbrev w : ℕ
@@ -63,8 +65,10 @@ module _ (x y z : ℕ) (first : x < y) (second : y < z) where
         ⊎_elim
         (λ (h : w < x).
         let b : List ℕ = w ∷ x ∷ y ∷ z ∷ [] in
-        let block : IsBlock (2 ^ m) 4 b =
-        ((omega arith, limit, (omega arith, omega arith, (omega arith, omega arith, (omega arith, below, tt)))), refl) in
+        let block : IsBlock (2 ^ m) 4 b = (
+          (omega arith, limit, (omega arith, omega arith, (omega arith, omega arith, (omega arith, below, tt)))),
+          refl,
+        ) in
         with_block b block (Contains-gen_blocks m b block front)
         (inr (inl refl), (inr (inr (inl refl)), (inr (inr (inr (inl refl))), tt))))
         (λ (h : x ≤ w).

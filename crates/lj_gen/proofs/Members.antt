@@ -1,5 +1,6 @@
 -- The generated blocks are the quadruples with xor 0.
-use Rattle.std.proofs.Common.{◌≡◌, ◌↔◌, ℕ, zero, suc, ◌-◌, ◌^◌, ◌<◌, ◌≤◌, ◌==◌, Bool, true, false, Contains, List, [], ◌∷◌, filter, length, map, ⊎_elim, refl, sym, ap, ◌∙◌, subst, arith, eq-eqb, eqb-true}
+use Rattle.std.proofs.Common.{◌≡◌, ◌↔◌, ℕ, zero, suc, ◌-◌, ◌^◌, ◌<◌, ◌≤◌, ◌==◌, Bool, true, false, Contains, List, []}
+use Rattle.std.proofs.Common.{◌∷◌, filter, length, map, ⊎_elim, refl, sym, ap, ◌∙◌, subst, arith, eq-eqb, eqb-true}
 use Rattle.std.proofs.lemmas.Bool.{cases_Bool, cases_lt}
 use Rattle.std.proofs.lemmas.List.{get_or-map, length-map}
 use Rattle.std.proofs.lemmas.List.Elements.{Contains-append_left, Contains-append_right}
@@ -41,7 +42,8 @@ passes-filter p (y ∷ ys) x h =
     (λ (fail : p y ≡ false). rest (rw fail at h))
     (cases_Bool (p y))
 
-Contains-choices : (d lo v n : ℕ) (s : List ℕ) → v - lo ≡ d → Ascends lo v s → length s ≡ n → Contains (choices lo v n) s
+Contains-choices : (d lo v n : ℕ) (s : List ℕ) → v - lo ≡ d → Ascends lo v s → length s ≡ n
+    → Contains (choices lo v n) s
 Contains-choices d lo v zero [] left h count = (0, omega arith, refl)
 Contains-choices d lo v zero (x ∷ xs) left h count = absurd (omega arith)
 Contains-choices d lo v (suc n) [] left h count = absurd (omega arith)

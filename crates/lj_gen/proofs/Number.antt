@@ -1,5 +1,7 @@
 -- The number of the generated blocks: each block has four triples, and each triple is in one block.
-use Rattle.std.proofs.Common.{◌≡◌, ℕ, zero, suc, ◌+◌, ◌-◌, ◌*◌, ◌^◌, ◌<◌, ◌≤◌, ◌≢◌, ◌==◌, Bool, true, false, cond, List, [], ◌∷◌, bit_xor, filter, length, map, refl, sym, ap, ◌∙◌, arith, eq-eqb, ne_eqb, length-append, ⊎_elim}
+use Rattle.std.proofs.Common.{◌≡◌, ℕ, zero, suc, ◌+◌, ◌-◌, ◌*◌, ◌^◌, ◌<◌, ◌≤◌, ◌≢◌, ◌==◌, Bool, true, false, cond, List}
+use Rattle.std.proofs.Common.{[], ◌∷◌, bit_xor, filter, length, map, refl, sym, ap, ◌∙◌, arith, eq-eqb, ne_eqb}
+use Rattle.std.proofs.Common.{length-append, ⊎_elim}
 use Rattle.std.proofs.lemmas.Bool.{cases_lt}
 use Rattle.std.proofs.lemmas.List.Elements.{filter-append}
 use Rattle.std.proofs.lemmas.Nat.{mul-le, xor_comm}
@@ -8,7 +10,9 @@ use Rattle.lj_gen.specs.Quadruples.{choices, gen_blocks, xor_of}
 use Rattle.lj_gen.proofs.Choosing.{choices-none, choices-step}
 use Rattle.lj_gen.proofs.Covering.{not_x, not_y, not_z, swap_last}
 use Rattle.lj_gen.proofs.LastPoint.{fourth-below, same_from_xor}
-use Rattle.lj_gen.proofs.Sums.{all_triples, sum_from, sum_from-none, sum_from-same, sum_from-without, sum_quadruples, sum_quadruples-same, sum_triples, sum_triples-add, sum_triples-first_gap, sum_triples-same, sum_triples-second_gap, sum_triples-third_gap}
+use Rattle.lj_gen.proofs.Sums.{all_triples, sum_from, sum_from-none, sum_from-same, sum_from-without, sum_quadruples}
+use Rattle.lj_gen.proofs.Sums.{sum_quadruples-same, sum_triples, sum_triples-add, sum_triples-first_gap}
+use Rattle.lj_gen.proofs.Sums.{sum_triples-same, sum_triples-second_gap, sum_triples-third_gap}
 
 -- ---- the number of choices that pass a test, by their first point
 
@@ -27,12 +31,14 @@ length-filter-map p f [] = refl
 length-filter-map p f (x ∷ xs) = length-cond (p (f x)) (f x) x _ _ (length-filter-map p f xs)
 
 length-passing : (p : List ℕ → Bool) (d lo v n : ℕ) → v - lo ≡ d
-    → length (filter p (choices lo v (suc n))) ≡ sum_from (λ x. length (filter (λ s. p (x ∷ s)) (choices (suc x) v n))) lo d
+    → length (filter p (choices lo v (suc n))) ≡ sum_from
+    (λ x. length (filter (λ s. p (x ∷ s)) (choices (suc x) v n))) lo d
 length-passing p zero lo v n left = ap (λ bs. length (filter p bs)) (choices-none lo v n (omega arith))
 length-passing p (suc d) lo v n left =
     let first = map (λ s. lo ∷ s) (choices (suc lo) v n) in
     let others = choices (suc lo) v (suc n) in
-    let split = ap (λ bs. length (filter p bs)) (choices-step lo v n (omega arith)) ∙ ap length (filter-append p first others)
+    let split = ap (λ bs. length (filter p bs)) (choices-step lo v n (omega arith))
+    ∙ ap length (filter-append p first others)
     ∙ length-append (filter p first) (filter p others) in
     let with_lo = length-filter-map p (λ s. lo ∷ s) (choices (suc lo) v n) in
     let rest = length-passing p d (suc lo) v n (omega arith) in
@@ -94,8 +100,10 @@ module _ (m : ℕ) where
       let q = bit_xor (bit_xor a b) c in
       let f = counts a b c in
       let all = one_hit q (v - 0) 0 (omega arith) (omega (arith, fourth-below a b c m first second below)) in
-      let at_a = sum_from-without f 0 a v (omega arith) (omega arith) (misses q a (λ e. not_x a b c first second (sym e))) in
-      let at_b = sum_from-without f (suc a) b v first (omega arith) (misses q b (λ e. not_y a b c first second (sym e))) in
+      let at_a =
+      sum_from-without f 0 a v (omega arith) (omega arith) (misses q a (λ e. not_x a b c first second (sym e))) in
+      let at_b =
+      sum_from-without f (suc a) b v first (omega arith) (misses q b (λ e. not_y a b c first second (sym e))) in
       let at_c = sum_from-without f (suc b) c v second below (misses q c (λ e. not_z a b c first second (sym e))) in
       omega arith
 
@@ -106,7 +114,8 @@ module _ (m : ℕ) where
       let two : ℕ → ℕ → ℕ → ℕ = λ a b c. sum_from (counts a b c) (suc a) (b - suc a) in
       let three : ℕ → ℕ → ℕ → ℕ = λ a b c. sum_from (counts a b c) (suc b) (c - suc b) in
       let four : ℕ → ℕ → ℕ → ℕ = λ a b c. sum_from (counts a b c) (suc c) (v - suc c) in
-      let all : sum_triples v (λ a b c. 1) ≡ sum_triples v (λ a b c. one a b c + (two a b c + (three a b c + four a b c))) =
+      let all : sum_triples v (λ a b c. 1) ≡ sum_triples v
+      (λ a b c. one a b c + (two a b c + (three a b c + four a b c))) =
       sum_triples-same v _ _ one_gap in
       let split = sum_triples-add v one (λ a b c. two a b c + (three a b c + four a b c)) in
       let split' = sum_triples-add v two (λ a b c. three a b c + four a b c) in

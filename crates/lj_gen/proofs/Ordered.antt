@@ -1,5 +1,6 @@
 -- The choices are in lexicographic order.
-use Rattle.std.proofs.Common.{◌≡◌, ℕ, zero, suc, ◌-◌, ◌^◌, ◌==◌, List, [], ◌∷◌, ◌++◌, map, refl, sym, subst, inl, inr, arith}
+use Rattle.std.proofs.Common.{◌≡◌, ℕ, zero, suc, ◌-◌, ◌^◌, ◌==◌, List, [], ◌∷◌, ◌++◌, map, refl, sym, subst, inl, inr}
+use Rattle.std.proofs.Common.{arith}
 use Rattle.std.proofs.lemmas.List.Elements.{All-from_recursion, recursion_from_All}
 use Rattle.std.proofs.lemmas.List.Kept.{AllPairs-cons, AllPairs-filter}
 use Rattle.std.specs.List.{AllByRecursion, AllPairs}
@@ -59,7 +60,8 @@ IsOrdered-choices (suc d) lo v (suc n) left =
         (map (λ s. lo ∷ s) ss)
     go greater [] = tt
     go greater (s ∷ ss) = (
-      AllByRecursion-weaker (IsChoice (suc lo) v (suc n)) (IsLexicographicallyBefore (lo ∷ s)) (choices (suc lo) v (suc n))
+      AllByRecursion-weaker (IsChoice (suc lo) v (suc n)) (IsLexicographicallyBefore (lo ∷ s))
+          (choices (suc lo) v (suc n))
           (λ t h. before_greater lo v n s t h) greater,
       go greater ss,
     )

@@ -1,5 +1,6 @@
 -- Quadruples of numbers with xor 0. As vectors of bits they are the planes of the affine space over two elements.
-use Rattle.std.specs.Prelude.{◌≡◌, ◌⊎◌, ◌<◌, ℕ, zero, suc, ◌-◌, ◌^◌, ◌==◌, List, [], ◌∷◌, ◌++◌, bit_xor, filter, fold, map}
+use Rattle.std.specs.Prelude.{◌≡◌, ◌⊎◌, ◌<◌, ℕ, zero, suc, ◌-◌, ◌^◌, ◌==◌, List, [], ◌∷◌, ◌++◌, bit_xor, filter, fold}
+use Rattle.std.specs.Prelude.{map}
 use Rattle.std.specs.List.{flat_map, range_with_len}
 
 -- the ascending lists of n points from lo on and below v, in lexicographic order

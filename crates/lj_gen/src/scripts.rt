@@ -93,7 +93,11 @@ fn put_cell(word: &[u8], cell: Cell, out: &mut Vec<u8>) -> Result<(), Memory>
     ensures { OnOk result (out.new.items ≡ out.old.items ++ (cell_line word.now cell ++ 10 ∷ [])) }
 {
     fields_law();
-    put_named(out, word, &[u64::from(cell.v), u64::from(cell.k), u64::from(cell.t)])?;
+    put_named(
+        out,
+        word,
+        &[u64::from(cell.v), u64::from(cell.k), u64::from(cell.t)],
+    )?;
     put(out, b"\n")
 }
 
@@ -104,8 +108,21 @@ mod tests {
     use lj_script::{Command, read_script};
     use std::test::Fail;
 
-    const EIGHT: &[u8] =
-        b"1 2 3 4\n1 2 5 6\n1 2 7 8\n1 3 5 7\n1 3 6 8\n1 4 5 8\n1 4 6 7\n2 3 5 8\n2 3 6 7\n2 4 5 7\n2 4 6 8\n3 4 5 6\n3 4 7 8\n5 6 7 8\n";
+    const EIGHT: &[u8] = b"1 2 3 4
+1 2 5 6
+1 2 7 8
+1 3 5 7
+1 3 6 8
+1 4 5 8
+1 4 6 7
+2 3 5 8
+2 3 6 7
+2 4 5 7
+2 4 6 8
+3 4 5 6
+3 4 7 8
+5 6 7 8
+";
 
     #[test]
     fn four_points_are_one_block(rt: HostRuntime) -> Result<(), Fail> {

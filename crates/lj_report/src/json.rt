@@ -11,9 +11,9 @@ use lj_text::put;
 use serde_json::{Value, json};
 use std::alloc::{AllocError, Global};
 
-/// Appends the report as one line of JSON: an object with the list `cells` of lists `[V,K,T,N,L,O]`, in the order of the
-/// text's lines, and the list `frame`, `[V,K,T]`. O is whether N and L are equal. It takes memory for the whole text
-/// besides.
+/// Appends the report as one line of JSON: an object with the list `cells` of lists `[V,K,T,N,L,O]`, in the order of
+/// the text's lines, and the list `frame`, `[V,K,T]`. O is whether N and L are equal. It takes memory for the whole
+/// text besides.
 pub fn report_json(
     alloc: Global,
     frame: Frame,

@@ -40,7 +40,13 @@ fn append_line(cell: Cell, bound: u64, out: &mut Vec<u8>) -> Result<(), Memory>
     ensures err { OnErr result (Extends out.old.items out.new.items) }
 {
     let lower = schonheim(cell);
-    let numbers = [u64::from(cell.v), u64::from(cell.k), u64::from(cell.t), bound, lower];
+    let numbers = [
+        u64::from(cell.v),
+        u64::from(cell.k),
+        u64::from(cell.t),
+        bound,
+        lower,
+    ];
     put_joined(out, b' ', &numbers)?;
     put(out, line_end(bound == lower))
 }

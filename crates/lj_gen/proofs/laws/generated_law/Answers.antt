@@ -17,4 +17,5 @@ returns-clause-script c = λ m low high.
 pub returns-clause-blocks : goal.returns-clause-blocks
 returns-clause-blocks c = λ m low high.
     let small = pow-high m high in
-    c.written_law.ensures (2 ^ m) 4 (gen_blocks m) (omega arith) (omega (arith, small)) (few_blocks m small) (AreBlocks-gen_blocks m)
+    c.written_law.ensures (2 ^ m) 4 (gen_blocks m) (omega arith) (omega (arith, small)) (few_blocks m small)
+    (AreBlocks-gen_blocks m)

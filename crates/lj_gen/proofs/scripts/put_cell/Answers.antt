@@ -20,7 +20,7 @@ returns c =
     let t = c.from-3.ensures ∙ ap (λ (x : Triple). x.t) c.cell.view_is in
     let numbers = same_three _ _ _ _ _ _ v k t in
     let joined = sym (c.fields_law.ensures 32 word (map decimal ns))
-        ∙ ap (λ n. join_by_space (word ∷ map decimal n)) numbers in
+    ∙ ap (λ n. join_by_space (word ∷ map decimal n)) numbers in
     let named = c.in_ok-put_named.ensures.ok ∙ ap (λ text. old ++ text) joined in
     on_ok_weaker c.put.result
     (λ last. last ∙ ap (λ text. text ++ 10 ∷ []) named ∙ append_assoc old line (10 ∷ [])) c.put.ensures.ok

@@ -10,6 +10,7 @@ abbrev pub invariant-loop-cell : goal.invariant-loop-cell
 invariant-loop-cell l =
     let left = l.cell-iterator in
     record {
-      made : map view l.values.items ++ map (λ c. cell_value c (at_cell l.frame l.bounds c)) left ≡ cell_values l.frame l.bounds;
+      made : map view l.values.items ++ map (λ c. cell_value c (at_cell l.frame l.bounds c)) left ≡ cell_values l.frame
+          l.bounds;
       listed : AllByRecursion (IsListed l.frame) left;
     }

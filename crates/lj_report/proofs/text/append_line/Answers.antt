@@ -34,6 +34,7 @@ returns-clause-ok c =
     let t = c.from-3.ensures ∙ ap (λ (x : Triple). x.t) c.cell.view_is in
     let are = same_five _ _ _ _ _ _ n lower v k t in
     on_ok_weaker c.put.result
-    (line_put cell n lower ns c.args.out.now.items _ _ _ c.schonheim-lower.ensures.value are c.in_ok-put_joined.ensures.ok
+    (line_put cell n lower ns c.args.out.now.items _ _ _ c.schonheim-lower.ensures.value are
+    c.in_ok-put_joined.ensures.ok
     c.line_end.ensures)
     c.put.ensures.ok
