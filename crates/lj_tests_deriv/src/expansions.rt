@@ -1,4 +1,4 @@
-use crate::given::{lines, part, plan_text, product};
+use crate::given::{lines, part, plan_text};
 use lj_base::{Cell, Frame};
 use lj_deriv::{Arena, Rule};
 use lj_samples::{five_fives, three_fours, upload};
@@ -44,7 +44,7 @@ fn a_product_of_three_parts(rt: HostRuntime) -> Result<(), Fail> {
         part(1, 1, 2, 2, 3),
         part(2, 2, 2, 4, 5),
     ];
-    let root = arena.add(product(Cell { v: 5, k: 3, t: 2 }, 2, &parts));
+    let root = arena.add(Rule::product(Cell { v: 5, k: 3, t: 2 }, 2, &parts));
     let text = b"1 one 2 0 0 1
 2 one 3 3 2 1
 3 one 2 2 1 1
@@ -77,7 +77,7 @@ fn a_product_of_two_parts(rt: HostRuntime) -> Result<(), Fail> {
         cell: Cell { v: 3, k: 1, t: 1 },
     });
     let parts = [part(0, 0, 0, 0, 1), part(1, 2, 2, 2, 3)];
-    let root = arena.add(product(Cell { v: 5, k: 3, t: 2 }, 2, &parts));
+    let root = arena.add(Rule::product(Cell { v: 5, k: 3, t: 2 }, 2, &parts));
     let want = b"3 4 5\n1 2 3\n1 2 4\n1 2 5\n".as_slice();
     assert!(rt; lines(alloc, &arena, root)?.as_slice() == want);
     Ok(())

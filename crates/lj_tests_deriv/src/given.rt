@@ -1,9 +1,8 @@
-ghost use Rattle.std.specs.Prelude.{◌≡◌, ◌-◌, ◌<◌, ◌≤◌, ◌++◌, length, replicate};
-ghost use Rattle.lj_deriv.specs.declared.rules.Rule.TheVariants.{Product};
+ghost use Rattle.std.specs.Prelude.{◌≡◌, ◌<◌, length};
 
-use lj_base::{Block, Cell, Memory};
+use lj_base::{Block, Memory};
 use lj_blockfile::write_block;
-use lj_deriv::{Arena, Part, Rule};
+use lj_deriv::{Arena, Part};
 use lj_expand::{expand_all, write_blocks};
 use std::alloc::Global;
 use std::test::Fail;
@@ -18,23 +17,6 @@ pub fn part(a: u8, b: u8, l: u8, first: u64, second: u64) -> Part
         l,
         first,
         second,
-    }
-}
-
-/// The product of these parts.
-pub fn product(cell: Cell, v1: u8, parts: &[Part]) -> Rule
-    requires { length parts.now ≤ 9 }
-    ensures { result ≡ Product cell v1
-        (parts.now ++ replicate (9 - length parts.now) (record { a = 0; b = 0; l = 0; first = 0; second = 0 }))
-        (length parts.now) }
-{
-    let mut all = [part(0, 0, 0, 0, 0); 9];
-    all[..parts.len()].copy_from_slice(parts);
-    Rule::Product {
-        cell,
-        v1,
-        parts: all,
-        count: parts.len() as u8,
     }
 }
 

@@ -11,6 +11,6 @@ push-requires c =
     record {
       in_range = Ascends-get_or_below 0 99 points i c.requires.ascends inside;
       greatest =
-        subst (AllBelow _) (sym c.loop-point.invariant) (AllBelow-take 0 99 points i c.requires.ascends inside);
+          subst (AllBelow _) (sym c.loop-point.invariant) (AllBelow-take 0 99 points i c.requires.ascends inside);
       room = omega (arith, ap length c.loop-point.invariant, length-take i points, c.requires.short);
     }
