@@ -1,9 +1,8 @@
 -- A list of words calls for one command at most.
-use Rattle.std.proofs.Common.{◌≡◌, ◌∙◌, ℕ, ◌≤◌, List, [], ◌∷◌, Option, None, Some, get_or, sym, ap, subst}
+use Rattle.std.proofs.Common.{◌≡◌, ◌∙◌, ℕ, List, [], ◌∷◌, Option, None, Some, get_or, sym, ap, subst}
 use Rattle.lj_cli.specs.Given.{Gift}
 use Rattle.lj_cli.specs.GoodWords.{GoodWords, SaysWorkers}
 use Rattle.lj_cli.specs.declared.words.CheckCall.{CheckCall}
-use Rattle.lj_base.specs.Cells.{Triple}
 
 abbrev given : Gift → Option Gift → Gift
 given other None = other

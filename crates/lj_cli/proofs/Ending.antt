@@ -1,5 +1,5 @@
 -- What follows from the way in which a check ends.
-use Rattle.std.proofs.Common.{◌≡◌, ◌⊎◌, ◌∙◌, ℕ, ◌+◌, ◌≤◌, ◌<◌, List, Option, None, Some, IfSome, length, sym, ap, subst}
+use Rattle.std.proofs.Common.{◌≡◌, ◌⊎◌, ◌∙◌, ℕ, ◌≤◌, ◌<◌, List, Option, None, Some, IfSome, length, sym, ap, subst}
 use Rattle.std.proofs.Common.{arith}
 use Rattle.std.proofs.Common.{◌++◌, append-nil, inl, inr, length-append}
 use Rattle.std.proofs.lemmas.Option.{IfSome_then}

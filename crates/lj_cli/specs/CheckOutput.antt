@@ -4,12 +4,11 @@ use Rattle.lj_base.specs.Blocks.{Covers}
 use Rattle.lj_base.specs.Cells.{Triple}
 use Rattle.lj_blockfile.specs.BlockFiles.{AreBlocksOf, IsBodyFault}
 use Rattle.lj_blockfile.specs.declared.faults.BodyFault.{BodyFault}
-use Rattle.lj_blockfile.specs.declared.faults.BodyFault.TheVariants.{Blocks as TooManyBlocks, Line as LineAt}
 use Rattle.lj_blockfile.specs.declared.faults.BodyFault.TheVariants.{Memory as NoBlocksMemory}
 use Rattle.lj_verify.specs.Limits.{IsWithinLimits}
 use Rattle.lj_verify.specs.Refusals.{IsRefused}
 use Rattle.lj_verify.specs.declared.refusals.Refusal.{Refusal}
-use Rattle.lj_verify.specs.declared.refusals.Refusal.TheVariants.{Blocks, TSets, Marks, Uncovered, Memory}
+use Rattle.lj_verify.specs.declared.refusals.Refusal.TheVariants.{Memory}
 use Rattle.lj_cli.specs.Verdicts.{verdict_status, verdict_text}
 use Rattle.lj_cli.specs.declared.verdicts.Verdict.{Verdict}
 use Rattle.lj_cli.specs.declared.verdicts.Verdict.TheVariants.{Fault, Refused, Covered}

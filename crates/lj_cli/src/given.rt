@@ -137,7 +137,7 @@ pub fn read_given(words: &[String]) -> Option<Given>
 fn add_first(given: &mut Given, word: &[u8], rest: &[String]) -> Option<usize>
     ensures some { IfSome result (λ n. (n ≤ length rest.now)
         × (joined given.old (given_by (word.now ∷ texts rest.now))
-            ≡ joined given.new (given_by (texts (drop n rest.now))))) }
+        ≡ joined given.new (given_by (texts (drop n rest.now))))) }
     ensures none { IfNone result
         (IfSome (joined given.old (given_by (word.now ∷ texts rest.now))) (λ g. IsFew g → ⊥)) }
 {

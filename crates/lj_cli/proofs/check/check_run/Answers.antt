@@ -1,4 +1,4 @@
-use Rattle.std.proofs.Common.{◌∙◌, inl, inr, subst}
+use Rattle.std.proofs.Common.{◌∙◌, inl, subst}
 use Rattle.lj_cli.specs.CheckOutput.{IsVerdict}
 use Rattle.lj_cli.proofs.check.check_run.Goals as goal
 
