@@ -1,5 +1,6 @@
 pub mod CopySteps
 pub mod Lines
+pub mod ReadsBack
 pub mod Marking
 pub mod Outcomes
 pub mod NewNumbers
