@@ -3,7 +3,7 @@ use Rattle.std.specs.Prelude.{◌≡◌, ℕ, ◌+◌, ◌-◌, ◌*◌, ◌^◌
 use Rattle.lj_base.specs.Bounds.{at_cell}
 use Rattle.lj_base.specs.Cells.{Triple}
 use Rattle.lj_base.specs.Frames.{InFrame, Top, cells_before_k, cells_before_v, index_of}
-use Rattle.lj_base.specs.declared.limits.TheConstants.{COST_LIMIT}
+use Rattle.lj_base.specs.declared.limits.TheConstants.{COST_LIMIT, MAX_CELLS}
 use Rattle.lj_cover.specs.Rules.{Part, triple}
 use Rattle.lj_product.specs.Parts.{IsPart, part_price}
 use Rattle.lj_product.specs.declared.sides.Sides.{Sides}
@@ -18,7 +18,7 @@ pub record AreSides (frame : Top) (s : Sides) : Type 0 where
   pub second_side : s.v1 < s.v
   pub first : s.first ≡ cells_before_v frame s.v1
   pub second : s.second ≡ cells_before_v frame (s.v - s.v1)
-  pub few : (s.first ≤ 99 * (26 * 9)) × (s.second ≤ 99 * (26 * 9))
+  pub few : (s.first ≤ MAX_CELLS) × (s.second ≤ MAX_CELLS)
 
 -- for each k of the frame the number of cells with one v whose k is lower
 pub record AreOffsets (frame : Top) (offsets : List ℕ) : Type 0 where
