@@ -1,7 +1,8 @@
 -- The list of blocks of each rule, from what the rule fixes and from the lists of its children, in the rule's order.
-use Rattle.std.specs.Prelude.{ℕ, suc, ◌+◌, ◌-◌, ◌*◌, ◌/◌, ◌==◌, ◌&&◌, nat_lt, nat_le, if◌then◌else◌, List, [], ◌∷◌, ◌++◌, map, length}
+use Rattle.std.specs.Prelude.{ℕ, suc, ◌+◌, ◌-◌, ◌*◌, ◌/◌, ◌==◌, nat_lt, nat_le, if◌then◌else◌, List, [], ◌∷◌, ◌++◌, map}
+use Rattle.std.specs.Prelude.{length}
 use Rattle.std.specs.List.{filter, flat_map, list_any, range_with_len}
-use Rattle.lj_cover.specs.Operations.{has_point, fill, cut, drop_last, add_point, unite, place, without}
+use Rattle.lj_cover.specs.Operations.{has_point, has_both, fill, cut, drop_last, add_point, unite, place, without}
 
 -- one block, of the first k points
 abbrev pub one_block : ℕ → List (List ℕ)
@@ -25,13 +26,13 @@ derived_blocks x bs = map (without x) (filter (λ b. has_point b x) bs)
 
 -- the blocks through x and y, of which x is the lesser, without both, each point lowered by the number of them below it
 abbrev pub derived2_blocks : ℕ → ℕ → List (List ℕ) → List (List ℕ)
-derived2_blocks x y bs = map (λ b. without x (without y b)) (filter (λ b. has_point b x && has_point b y) bs)
+derived2_blocks x y bs = map (λ b. without x (without y b)) (filter (has_both x y) bs)
 
 -- each block brought below v: where it has point v, that is removed and the block is filled
 abbrev pub drop_blocks : ℕ → List (List ℕ) → List (List ℕ)
 drop_blocks v bs = map (drop_last v) bs
 
--- each block with point p added behind
+-- each block with point p added after its others
 abbrev pub add_blocks : ℕ → List (List ℕ) → List (List ℕ)
 add_blocks p bs = map (add_point p) bs
 
@@ -59,11 +60,16 @@ at_size [] xs d l = d
 at_size (s ∷ ss) [] d l = d
 at_size (s ∷ ss) (x ∷ xs) d l = if s == l then x else at_size ss xs d l
 
--- the blocks for one cut: none where it is smaller than t, itself filled below w where it has up to k points,
--- and else the blocks of the child for its size, placed on its points
+-- the blocks for one cut: none where it is smaller than t, itself filled below w where it has up to k points, and else
+-- those
+-- of the child for its size, placed on its points
+abbrev pub blocks_of_cut : ℕ → ℕ → List (List ℕ) → List ℕ → List (List ℕ)
+blocks_of_cut t k child c =
+    if nat_lt (length c) t then [] else (if nat_le (length c) k then fill k c ∷ [] else map (place c) child)
+
+-- the blocks for one cut, where the children's lists stand in the order of their sizes
 abbrev pub cut_blocks : ℕ → ℕ → List ℕ → List (List (List ℕ)) → List ℕ → List (List ℕ)
-cut_blocks t k sizes lists c =
-    if nat_lt (length c) t then [] else (if nat_le (length c) k then fill k c ∷ [] else map (place c) (at_size sizes lists [] (length c)))
+cut_blocks t k sizes lists c = blocks_of_cut t k (at_size sizes lists [] (length c)) c
 
 -- the blocks for the cut of each block to the points below w
 abbrev pub induced_blocks : ℕ → ℕ → ℕ → List (List (List ℕ)) → List (List ℕ) → List (List ℕ)

@@ -3,7 +3,8 @@ use Rattle.std.specs.Prelude.{◌≡◌, ℕ, ◌≤◌, List, [], ◌∷◌}
 use Rattle.std.specs.List.{Contains}
 use Rattle.lj_base.specs.Cells.{IsCell, Triple}
 use Rattle.lj_base.specs.Frames.{InFrame, Top}
-use Rattle.lj_cover.specs.Rules.{Rule, Upload, Condition, ForUpload, IsCovering, rule_cell, rule_children, rule_blocks, rule_cost}
+use Rattle.lj_cover.specs.Rules.{Rule, Upload, Condition, ForUpload, IsCovering, rule_cell, rule_children, rule_blocks}
+use Rattle.lj_cover.specs.Rules.{rule_cost}
 
 mutual
   -- a rule over the trees of its children
@@ -29,7 +30,7 @@ pub record IsSound (r : Rule) : Type 0 where
   pub upload_covers : ForUpload IsCovering r
 
 abbrev mutual
-  -- each rule in the tree is sound, and its children's trees are of the cells that it asks for
+  -- each rule in the tree is sound, and its children's trees are of the cells of its children
   pub IsDerivation : Tree → Type 0
   IsDerivation (node r ds) = IsSound r × (root_cells ds ≡ rule_children r) × AreDerivations ds
 

@@ -1,7 +1,10 @@
 pub mod Designs
 pub mod Operations
 pub mod BlockLists
+pub mod Cuts
 pub mod Rules
+pub mod Sources
 pub mod Derivations
+pub mod Uses
 pub mod Instances
 pub mod Lower

@@ -1,10 +1,23 @@
 -- Operations on blocks. A block is the ascending list of its points, and points are numbered from 0.
-use Rattle.std.specs.Prelude.{ℕ, zero, suc, ◌+◌, ◌-◌, ◌==◌, Bool, not, nat_lt, if◌then◌else◌, List, [], ◌∷◌, ◌++◌, map, length, slice_index}
-use Rattle.std.specs.List.{filter, list_any}
+use Rattle.std.specs.Prelude.{ℕ, zero, suc, ◌+◌, ◌-◌, ◌==◌, ◌&&◌, Bool, not, nat_lt, if◌then◌else◌, List, [], ◌∷◌, ◌++◌}
+use Rattle.std.specs.Prelude.{map, length, slice_index}
+use Rattle.std.specs.List.{count_by, filter, list_any}
 
 -- whether p is a point of the block
 abbrev pub has_point : List ℕ → ℕ → Bool
 has_point b p = list_any (λ x. x == p) b
+
+-- the number of blocks through x
+abbrev pub degree_at : List (List ℕ) → ℕ → ℕ
+degree_at bs x = count_by (λ b. has_point b x) bs
+
+-- whether both x and y are points of the block
+abbrev pub has_both : ℕ → ℕ → List ℕ → Bool
+has_both x y b = has_point b x && has_point b y
+
+-- the number of blocks through both x and y
+abbrev pub pair_degree_at : List (List ℕ) → ℕ → ℕ → ℕ
+pair_degree_at bs x y = count_by (has_both x y) bs
 
 -- the block with the least point from lo on that it lacks; its points are lo or more
 abbrev pub add_least : ℕ → List ℕ → List ℕ
@@ -28,7 +41,7 @@ cut w b = filter (λ p. nat_lt p w) b
 abbrev pub drop_last : ℕ → List ℕ → List ℕ
 drop_last v b = fill (length b) (cut v b)
 
--- the block with a point behind its others
+-- the block with a point after its others
 abbrev pub add_point : ℕ → List ℕ → List ℕ
 add_point p b = b ++ p ∷ []
 

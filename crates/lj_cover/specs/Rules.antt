@@ -1,18 +1,22 @@
--- The rules by which a covering is made from uploads and from coverings of other cells: each has its cell, the cells of its
+-- The rules by which a covering is made from uploads and from coverings of other cells: each has its cell, the cells
+-- of its
 -- children, a condition, a cost, and a list of blocks.
-use Rattle.std.specs.Prelude.{◌≡◌, ℕ, ◌+◌, ◌-◌, ◌*◌, ◌<◌, ◌≤◌, ◌⊎◌, ◌&&◌, nat_lt, nat_le, if◌then◌else◌, min, List, [], ◌∷◌, map, length, slice_index}
-use Rattle.std.specs.List.{AllByRecursion, count_by, flat_map, sum_by}
+use Rattle.std.specs.Prelude.{◌≡◌, ℕ, ◌+◌, ◌-◌, ◌*◌, ◌<◌, ◌≤◌, ◌⊎◌, nat_lt, nat_le, if◌then◌else◌, min, List, [], ◌∷◌}
+use Rattle.std.specs.Prelude.{map, length, slice_index}
+use Rattle.std.specs.List.{AllByRecursion, flat_map, sum_by}
 use Rattle.lj_base.specs.Blocks.{Covers}
 use Rattle.lj_base.specs.Cells.{IsCell, Triple}
 use Rattle.lj_base.specs.Colex.{choose, sets}
-use Rattle.lj_cover.specs.Operations.{cut, has_point}
-use Rattle.lj_cover.specs.BlockLists.{one_block, ceil_div, run_blocks, derived_blocks, derived2_blocks, drop_blocks, add_blocks, grow_blocks, product_blocks, cut_sizes, at_size, induced_blocks}
+use Rattle.lj_cover.specs.Operations.{cut, degree_at, pair_degree_at}
+use Rattle.lj_cover.specs.BlockLists.{one_block, ceil_div, run_blocks, derived_blocks, derived2_blocks, drop_blocks}
+use Rattle.lj_cover.specs.BlockLists.{add_blocks, grow_blocks, product_blocks, cut_sizes, at_size, induced_blocks}
 
 -- the cell of v points, blocks of k and sets of t
 abbrev pub triple : ℕ → ℕ → ℕ → Triple
 triple v k t = record { v = v; k = k; t = t }
 
--- a covering that a client has uploaded: the bytes of the client's name, its number among that client's, its cell and its blocks
+-- a covering that a client has uploaded: the bytes of the client's name, its number among that client's, its cell and
+-- its blocks
 pub record Upload : Type 0 where
   pub client : List ℕ
   pub ordinal : ℕ
@@ -24,7 +28,8 @@ pub record IsCovering (u : Upload) : Type 0 where
   pub in_limits : IsCell u.cell
   pub covers : Covers u.blocks u.cell
 
--- one part of a product. It serves the sets that have from a to b points in the first factor, and its blocks have l points there
+-- one part of a product. It serves the sets that have from a to b points in
+-- the first factor, and its blocks have l points there
 pub record Part : Type 0 where
   pub a : ℕ
   pub b : ℕ
@@ -75,20 +80,19 @@ rule_cell (Induced u w k) = triple w k u.cell.t
 abbrev pub part_cells : Triple → ℕ → Part → List Triple
 part_cells c v1 p = triple v1 p.l p.b ∷ triple (c.v - v1) (c.k - p.l) (c.t - p.a) ∷ []
 
+-- the cells of an induced rule's children: one for each size above k of the blocks' cuts to the points below w
+abbrev pub cut_cells : ℕ → ℕ → ℕ → List (List ℕ) → List Triple
+cut_cells t k w bs = map (λ l. triple l k t) (cut_sizes k w bs)
+
 -- the cells of the rule's children
 abbrev pub rule_children : Rule → List Triple
-rule_children (One c) = []
-rule_children (Runs c) = []
-rule_children (All c) = []
-rule_children (Leaf u) = []
-rule_children (Derived u x) = []
-rule_children (Derived2 u x y) = []
 rule_children (Drop c) = triple (c.v + 1) c.k c.t ∷ []
 rule_children (Add c) = triple (c.v - 1) (c.k - 1) c.t ∷ []
 rule_children (Grow c) = triple c.v (c.k - 1) c.t ∷ []
 rule_children (Lower c) = triple c.v c.k (c.t + 1) ∷ []
 rule_children (Product c v1 parts) = flat_map (part_cells c v1) parts
-rule_children (Induced u w k) = map (λ l. triple l k u.cell.t) (cut_sizes k w u.blocks)
+rule_children (Induced u w k) = cut_cells u.cell.t k w u.blocks
+rule_children _ = []
 
 -- the parts follow each other and serve each number from lo to hi once
 abbrev pub Chain : ℕ → ℕ → List Part → Type 0
@@ -126,18 +130,11 @@ Condition (Induced u w k) = (u.cell.t ≤ k) × (k ≤ w) × (w ≤ u.cell.v)
 
 -- P holds of the upload that the rule names, where it names one
 abbrev pub ForUpload : (Upload → Type 0) → Rule → Type 0
-ForUpload P (One c) = Unit {0}
-ForUpload P (Runs c) = Unit {0}
-ForUpload P (All c) = Unit {0}
 ForUpload P (Leaf u) = P u
 ForUpload P (Derived u x) = P u
 ForUpload P (Derived2 u x y) = P u
-ForUpload P (Drop c) = Unit {0}
-ForUpload P (Add c) = Unit {0}
-ForUpload P (Grow c) = Unit {0}
-ForUpload P (Lower c) = Unit {0}
-ForUpload P (Product c v1 parts) = Unit {0}
 ForUpload P (Induced u w k) = P u
+ForUpload P _ = Unit {0}
 
 -- the numbers stand in pairs: the sum of their products
 abbrev pub sum_of_products : List ℕ → ℕ
@@ -155,15 +152,15 @@ rule_cost (One c) ns = 1
 rule_cost (Runs c) ns = ceil_div c.v c.k
 rule_cost (All c) ns = choose c.v c.k
 rule_cost (Leaf u) ns = length u.blocks
-rule_cost (Derived u x) ns = count_by (λ b. has_point b x) u.blocks
-rule_cost (Derived2 u x y) ns = count_by (λ b. has_point b x && has_point b y) u.blocks
+rule_cost (Derived u x) ns = degree_at u.blocks x
+rule_cost (Derived2 u x y) ns = pair_degree_at u.blocks x y
 rule_cost (Drop c) ns = slice_index ns 0
 rule_cost (Add c) ns = slice_index ns 0
 rule_cost (Grow c) ns = slice_index ns 0
 rule_cost (Lower c) ns = slice_index ns 0
 rule_cost (Product c v1 parts) ns = sum_of_products ns
 rule_cost (Induced u w k) ns =
-    sum_by (λ b. cut_cost u.cell.t k (at_size (cut_sizes k w u.blocks) ns 0 (length (cut w b))) (length (cut w b))) u.blocks
+    sum_by (λ b. let l = length (cut w b) in cut_cost u.cell.t k (at_size (cut_sizes k w u.blocks) ns 0 l) l) u.blocks
 
 -- the first list, where there is one
 abbrev pub first_list : List (List (List ℕ)) → List (List ℕ)

@@ -1,13 +1,15 @@
-ghost use Rattle.std.specs.Prelude.{◌≡◌, ◌+◌, ◌-◌, ◌<◌, ◌≤◌, ◌++◌, ◌↔◌, IfOk, IsTrue, OnErr, OnOk, length, map, vec_capacity, vec_len};
-ghost use Rattle.std.specs.List.{count_by};
-ghost use Rattle.lj_base.specs.Blocks.{AllBelow, Has};
-ghost use Rattle.lj_cover.specs.Operations.{has_point, unite};
-ghost use Rattle.lj_cover.specs.BlockLists.{add_blocks, derived_blocks, derived2_blocks, drop_blocks, grow_blocks, join_blocks};
+ghost use Rattle.std.specs.Prelude.{◌≡◌, ◌+◌, ◌-◌, ◌<◌, ◌≤◌, ◌++◌, IfOk, OnErr, OnOk, length, map};
+ghost use Rattle.std.specs.Prelude.{vec_capacity, vec_len};
+ghost use Rattle.lj_base.specs.Blocks.{AllBelow};
+ghost use Rattle.lj_cover.specs.Operations.{unite};
+ghost use Rattle.lj_cover.specs.BlockLists.{add_blocks, derived_blocks, derived2_blocks, drop_blocks, grow_blocks};
+ghost use Rattle.lj_cover.specs.BlockLists.{join_blocks};
 ghost use Rattle.lj_cover.specs.Rules.{triple};
 
+use crate::counts::has_both;
 use crate::designs::Design;
 use crate::operations::{add_point, drop_last, fill, unite, without};
-use lj_base::{Block, Cell, Memory};
+use lj_base::{Block, Memory};
 use std::alloc::Global;
 
 /// Covers with one point less: point `v - 1` is removed where it is in a block, and the block is filled.
@@ -18,19 +20,12 @@ pub fn drop_design(alloc: Global, d: &Design) -> Result<Design, Memory>
     ensures blocks { IfOk result (λ r. r.blocks ≡ drop_blocks (d.now.cell.v - 1) d.now.blocks) }
 {
     let cell = d.cell();
-    let v = cell.v - 1;
+    let v = u64::from(cell.v) - 1;
     let mut blocks = Vec::with_capacity(alloc, d.blocks().len())?;
     for b in d.blocks() {
-        blocks.push_reserved(drop_last(*b, u64::from(v)));
+        blocks.push_reserved(drop_last(*b, v));
     }
-    Ok(Design::of(
-        Cell {
-            v,
-            k: cell.k,
-            t: cell.t,
-        },
-        blocks,
-    ))
+    Ok(Design::of(cell.dropped(), blocks))
 }
 
 /// Covers with one point more, which is added to each block.
@@ -45,14 +40,7 @@ pub fn add_design(alloc: Global, d: &Design) -> Result<Design, Memory>
     for b in d.blocks() {
         blocks.push_reserved(add_point(*b, cell.v));
     }
-    Ok(Design::of(
-        Cell {
-            v: cell.v + 1,
-            k: cell.k + 1,
-            t: cell.t,
-        },
-        blocks,
-    ))
+    Ok(Design::of(cell.added(), blocks))
 }
 
 /// Covers with blocks of one point more: each gets its least missing point.
@@ -63,19 +51,12 @@ pub fn grow_design(alloc: Global, d: &Design) -> Result<Design, Memory>
     ensures blocks { IfOk result (λ r. r.blocks ≡ grow_blocks (d.now.cell.k + 1) d.now.blocks) }
 {
     let cell = d.cell();
-    let k = cell.k + 1;
+    let k = u64::from(cell.k) + 1;
     let mut blocks = Vec::with_capacity(alloc, d.blocks().len())?;
     for b in d.blocks() {
-        blocks.push_reserved(fill(*b, u64::from(cell.v), u64::from(k)));
+        blocks.push_reserved(fill(*b, u64::from(cell.v), k));
     }
-    Ok(Design::of(
-        Cell {
-            v: cell.v,
-            k,
-            t: cell.t,
-        },
-        blocks,
-    ))
+    Ok(Design::of(cell.grown(), blocks))
 }
 
 /// Covers, by the same blocks, the sets of one point less.
@@ -84,15 +65,8 @@ pub fn lower_design(alloc: Global, d: &Design) -> Result<Design, Memory>
     ensures cell { IfOk result (λ r. r.cell ≡ triple d.now.cell.v d.now.cell.k (d.now.cell.t - 1)) }
     ensures blocks { IfOk result (λ r. r.blocks ≡ d.now.blocks) }
 {
-    let cell = d.cell();
-    Ok(Design::of(
-        Cell {
-            v: cell.v,
-            k: cell.k,
-            t: cell.t - 1,
-        },
-        d.blocks().to_vec(alloc)?,
-    ))
+    let blocks = d.blocks().to_vec(alloc)?;
+    Ok(Design::of(d.cell().lowered(), blocks))
 }
 
 /// Covers with one point less by the blocks through point `x`, without it.
@@ -103,21 +77,13 @@ pub fn derive_design(alloc: Global, d: &Design, x: u8) -> Result<Design, Memory>
     ensures cell { IfOk result (λ r. r.cell ≡ triple (d.now.cell.v - 1) (d.now.cell.k - 1) (d.now.cell.t - 1)) }
     ensures blocks { IfOk result (λ r. r.blocks ≡ derived_blocks x d.now.blocks) }
 {
-    let cell = d.cell();
     let mut blocks = Vec::with_capacity(alloc, d.blocks().len())?;
     for b in d.blocks() {
         if b.has(x) {
             blocks.push_reserved(without(*b, x));
         }
     }
-    Ok(Design::of(
-        Cell {
-            v: cell.v - 1,
-            k: cell.k - 1,
-            t: cell.t - 1,
-        },
-        blocks,
-    ))
+    Ok(Design::of(d.cell().derived(1), blocks))
 }
 
 /// Covers with two points less by the blocks through points `x` and `y`, without them.
@@ -129,41 +95,13 @@ pub fn derive2_design(alloc: Global, d: &Design, x: u8, y: u8) -> Result<Design,
     ensures cell { IfOk result (λ r. r.cell ≡ triple (d.now.cell.v - 2) (d.now.cell.k - 2) (d.now.cell.t - 2)) }
     ensures blocks { IfOk result (λ r. r.blocks ≡ derived2_blocks x y d.now.blocks) }
 {
-    let cell = d.cell();
     let mut blocks = Vec::with_capacity(alloc, d.blocks().len())?;
     for b in d.blocks() {
         if has_both(b, x, y) {
             blocks.push_reserved(without(without(*b, y), x));
         }
     }
-    Ok(Design::of(
-        Cell {
-            v: cell.v - 2,
-            k: cell.k - 2,
-            t: cell.t - 2,
-        },
-        blocks,
-    ))
-}
-
-fn has_both(b: &Block, x: u8, y: u8) -> bool
-    ensures { IsTrue result ↔ (Has b.now x × Has b.now y) }
-{
-    b.has(x) && b.has(y)
-}
-
-/// The number of blocks through point `x`.
-pub fn degree(d: &Design, x: u8) -> u64
-    requires { x < d.now.cell.v }
-    ensures { result ≡ count_by (λ b. has_point b x) d.now.blocks }
-{
-    let mut count = 0;
-    for block in d.blocks() {
-        if block.has(x) {
-            count += 1;
-        }
-    }
-    count
+    Ok(Design::of(d.cell().derived(2), blocks))
 }
 
 /// Appends the union of every block of `a` with every block of `b`, shifted up by `v1`; those of `b` run faster.

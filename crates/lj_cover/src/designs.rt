@@ -1,5 +1,6 @@
 ghost use Rattle.std.specs.Prelude.{◌≡◌, IfOk};
 ghost use Rattle.lj_base.specs.Blocks.{Covers};
+ghost use Rattle.lj_base.specs.Cells.{IsCell};
 
 use lj_base::{Block, Cell, Memory};
 use std::alloc::Global;
@@ -32,19 +33,25 @@ impl Design {
         Design { cell, blocks }
     }
 
+    /// The cell that the blocks cover.
     pub fn cell(&self) -> Cell
         ensures { result ≡ self.now.cell }
     {
         self.cell
     }
 
+    /// The blocks, in their order.
     pub fn blocks(&self) -> &[Block]
         ensures blocks { result.now ≡ self.now.blocks }
         ensures covers { Covers self.now.blocks self.now.cell }
+        ensures limits { IsCell self.now.cell }
     {
+        // A cell is within the limits, as one of its numbers is read.
+        let _points = self.cell.v;
         &self.blocks
     }
 
+    /// A second design of the same cell and blocks.
     pub fn copy(&self, alloc: Global) -> Result<Design, Memory>
         ensures { IfOk result (λ design. design ≡ self.now) }
     {

@@ -45,7 +45,7 @@ pub fn drop_last(b: Block, v: u64) -> Block
     fill(cut_first(b, v), v, b.len())
 }
 
-/// Adds a point behind those that are there.
+/// Adds a point after those of the block.
 pub fn add_point(b: Block, p: u8) -> Block
     requires in_range { p < 99 }
     requires greatest { AllBelow p b }
@@ -57,7 +57,7 @@ pub fn add_point(b: Block, p: u8) -> Block
     longer
 }
 
-/// The block `a`, which lies below `v1`, and behind it the block `b` shifted up by `v1`.
+/// The block `a`, which lies below `v1`, and after it the block `b` shifted up by `v1`.
 pub fn unite(a: Block, b: Block, v1: u64) -> Block
     requires first { AllBelow v1 a }
     requires second { AllBelow (99 - v1) b }

@@ -22,7 +22,7 @@ pub fn schonheim(c: Cell) -> u64
     let (v, k, t) = (c.v as u64, c.k as u64, c.t as u64);
     let mut blocks = 1;
     for removed in (0..t).rev() {
-        // Pairs of a block and a point of it: at least so many, as each point is in so many blocks.
+        // Pairs of a block and a point of it, counted by the points: each is in at least `blocks` blocks.
         let pairs = (v - removed) * blocks;
         blocks = pairs.div_ceil(k - removed);
     }

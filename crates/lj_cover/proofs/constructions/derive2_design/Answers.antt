@@ -1,11 +1,9 @@
-use Rattle.std.proofs.Common.{◌∙◌, ◌&&◌, ◌++◌, [], ◌∷◌, ap, arith, sym}
-use Rattle.std.proofs.lemmas.Bool.{and_from, and_parts, false_from_ne_true, iff_false}
-use Rattle.lj_base.specs.Cells.{Triple}
+use Rattle.std.proofs.Common.{◌∙◌, ◌-◌, ◌++◌, ℕ, List, [], ◌∷◌, ap, arith, sym}
 use Rattle.lj_cover.specs.BlockLists.{derived2_blocks}
-use Rattle.lj_cover.specs.Operations.{has_point, without}
-use Rattle.lj_cover.proofs.Blocks.{all_made, covering, kept_no, kept_yes}
-use Rattle.lj_cover.proofs.Cutting.{Has-from_test, test-from_Has}
-use Rattle.lj_cover.proofs.Removing.{derived2_covers}
+use Rattle.lj_cover.specs.Operations.{has_both, without}
+use Rattle.lj_cover.proofs.BlocksOfDesigns.{kept_no, kept_yes, made_covers}
+use Rattle.lj_cover.proofs.DerivedRules.{derived2_covers}
+use Rattle.lj_cover.specs.Rules.{triple}
 use Rattle.lj_cover.proofs.constructions.derive2_design.Goals as goal
 use Rattle.lj_cover.proofs.constructions.derive2_design.Goals.{then-has_both, else-has_both}
 
@@ -16,29 +14,29 @@ loop-b-preserved c =
     let b = c.b-item.result in
     let items = c.blocks-b-items.result.now in
     let kept = c.loop-b.invariant.items in
+    let twice = λ (d : List ℕ). without x (without y d) in
     elim c.if-has_both.branch [
       | then-has_both w ↦
-          let both = c.has_both.ensures.0 w.if-has_both.true in
-          let one_more = kept_yes (λ d. has_point d x && has_point d y) (λ d. without x (without y d)) items c.loop-b.b-index b c.loop-b-test.true c.b-item.is
-          (and_from _ _ (test-from_Has b x both.0) (test-from_Has b y both.1)) in
+          let one_more = kept_yes (has_both x y) twice items c.loop-b.b-index b c.loop-b-test.true c.b-item.is
+          (sym c.has_both.ensures ∙ w.if-has_both.true) in
           let made = w.without-then-has_both.ensures ∙ ap (without x) w.without.ensures in
           rw w.blocks-is (record {
-            items = w.push_reserved.ensures.items ∙ ap (λ r. c.loop-b.blocks.items ++ r ∷ []) made ∙ ap (λ bs. bs ++ without x (without y b) ∷ []) kept ∙ sym one_more;
+            items = w.push_reserved.ensures.items ∙ ap (λ r. c.loop-b.blocks.items ++ r ∷ []) made
+                ∙ ap (λ bs. bs ++ twice b ∷ []) kept ∙ sym one_more;
             room = omega arith;
             len = omega arith;
           })
       | else-has_both w ↦
-          let no_more = kept_no (λ d. has_point d x && has_point d y) (λ d. without x (without y d)) items c.loop-b.b-index b c.loop-b-test.true c.b-item.is
-          (false_from_ne_true (has_point b x && has_point b y)
-          (λ e. let both = and_parts (has_point b x) (has_point b y) e in iff_false c.has_both.ensures w.if-has_both.false (Has-from_test b x both.0, Has-from_test b y both.1))) in
+          let no_more = kept_no (has_both x y) twice items c.loop-b.b-index b c.loop-b-test.true c.b-item.is
+          (sym c.has_both.ensures ∙ w.if-has_both.false) in
           rw w.blocks-is (record { items = kept ∙ sym no_more; room = omega arith; len = omega arith })
     ]
 
 pub of-requires : goal.of-requires
 of-requires c =
-    let cell = c.cell.inside in
-    let items = c.blocks-b-items.result.now in
-    let same = c.cell.view_is ∙ c.cell-cell.ensures in
-    let all = covering cell.v cell.k cell.t _ items _ same c.blocks-b-items.ensures.blocks c.blocks-b-items.ensures.covers in
-    all_made (derived2_blocks c.args.x c.args.y) _ _ items c.loop-b.b-index c.loop-b-test.false c.loop-b.invariant.items
-    (derived2_covers cell.v cell.k cell.t c.args.x c.args.y items (omega (arith, ap (λ (x : Triple). x.t) same)) c.requires.order (omega (arith, ap (λ (x : Triple). x.v) same)) all)
+    let d = c.args.d.now in
+    made_covers (derived2_blocks c.args.x c.args.y) (λ e. triple (e.v - 2) (e.k - 2) (e.t - 2)) d.cell c.cell.result
+    c.derived.result c.loop-b.blocks.items c.blocks-b-items.result.now d.blocks c.loop-b.b-index
+    c.loop-b-test.false c.loop-b.invariant.items c.blocks-b-items.ensures.blocks c.derived.ensures c.cell.ensures
+    (derived2_covers d.cell.v d.cell.k d.cell.t c.args.x c.args.y d.blocks c.requires.sets c.requires.order
+    c.requires.inside c.blocks-b-items.ensures.covers)

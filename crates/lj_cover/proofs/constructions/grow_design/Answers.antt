@@ -1,9 +1,9 @@
-use Rattle.std.proofs.Common.{◌∙◌, ◌+◌, ap, arith}
+use Rattle.std.proofs.Common.{◌≡◌, ◌∙◌, ◌+◌, ap, arith, take}
 use Rattle.lj_base.specs.Cells.{Triple}
-use Rattle.lj_base.proofs.Lists.{AllBelow-from_Ascends}
+use Rattle.lj_base.proofs.Ascending.{AllBelow-from_Ascends, AllBelow-wider}
 use Rattle.lj_cover.specs.BlockLists.{grow_blocks}
-use Rattle.lj_cover.proofs.Appending.{AllBelow-wider}
-use Rattle.lj_cover.proofs.Blocks.{all_made, block_read, covering, grown_covers}
+use Rattle.lj_cover.proofs.BlocksOfDesigns.{block_read, covering, made_covers, grown_covers}
+use Rattle.lj_cover.specs.Rules.{triple}
 use Rattle.lj_cover.proofs.constructions.grow_design.Goals as goal
 
 pub fill-requires-clause-below : goal.fill-requires-clause-below
@@ -11,15 +11,21 @@ fill-requires-clause-below c =
     let cell = c.cell.inside in
     let items = c.blocks-b-items.result.now in
     let same = c.cell.view_is ∙ c.cell-cell.ensures in
-    let all = covering cell.v cell.k cell.t _ items _ same c.blocks-b-items.ensures.blocks c.blocks-b-items.ensures.covers in
-    let block = block_read cell.v cell.k cell.t c.loop-b.b-index items c.b-item.result c.loop-b-test.true c.b-item.is all in
-    AllBelow-wider cell.v _ c.b-item.result (omega (arith, c.from.ensures)) (AllBelow-from_Ascends 0 cell.v c.b-item.result block.0)
+    let all = covering cell.v cell.k cell.t _ items _ same c.blocks-b-items.ensures.blocks
+    c.blocks-b-items.ensures.covers in
+    let block = block_read cell.v cell.k cell.t c.loop-b.b-index items c.b-item.result c.loop-b-test.true c.b-item.is
+    all in
+    AllBelow-wider cell.v _ c.b-item.result (omega (arith, c.from.ensures))
+    (AllBelow-from_Ascends 0 cell.v c.b-item.result block.0)
 
 pub of-requires : goal.of-requires
 of-requires c =
-    let cell = c.cell.inside in
-    let items = c.blocks-b-items.result.now in
+    let d = c.args.d.now in
     let same = c.cell.view_is ∙ c.cell-cell.ensures in
-    let all = covering cell.v cell.k cell.t _ items _ same c.blocks-b-items.ensures.blocks c.blocks-b-items.ensures.covers in
-    all_made (grow_blocks (cell.k + 1)) _ _ items c.loop-b.b-index c.loop-b-test.false c.loop-b.invariant.items
-    (grown_covers cell.v cell.k cell.t items c.cell.invariant.2 (omega (arith, ap (λ (x : Triple). x.v) same, ap (λ (x : Triple). x.k) same)) all)
+    let size : c.from-k.result + 1 ≡ d.cell.k + 1 = omega (arith, c.from-k.ensures, ap (λ (e : Triple). e.k) same) in
+    made_covers (grow_blocks (d.cell.k + 1)) (λ e. triple e.v (e.k + 1) e.t) d.cell c.cell-cell.result
+    c.grown.result c.loop-b.blocks.items c.blocks-b-items.result.now d.blocks c.loop-b.b-index c.loop-b-test.false
+    (c.loop-b.invariant.items ∙ ap (λ n. grow_blocks n (take c.loop-b.b-index c.blocks-b-items.result.now)) size)
+    c.blocks-b-items.ensures.blocks c.grown.ensures c.cell-cell.ensures
+    (grown_covers d.cell.v d.cell.k d.cell.t d.blocks c.blocks-b-items.ensures.limits.2 c.requires.room
+    c.blocks-b-items.ensures.covers)

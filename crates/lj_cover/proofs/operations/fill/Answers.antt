@@ -20,8 +20,10 @@ loop-placed-preserved c =
     elim c.if-is_next.branch [
       | then-is_next w ↦
           let facts = c.is_next.ensures.0 w.if-is_next.true in
-          rw (c.push.ensures, w.taken-is, w.missing-is, w.point-is, w.at-point.ensures) (step_own _ _ _ _ _ _ _ invariant facts.0 facts.1)
+          rw (c.push.ensures, w.taken-is, w.missing-is, w.point-is, w.at-point.ensures)
+          (step_own _ _ _ _ _ _ _ invariant facts.0 facts.1)
       | else-is_next w ↦
           rw (c.push.ensures, w.taken-is, w.missing-is, w.point-is)
-          (step_new _ _ _ _ _ _ _ invariant c.loop-placed-test.true c.requires.short (iff_false c.is_next.ensures w.if-is_next.false))
+          (step_new _ _ _ _ _ _ _ invariant c.loop-placed-test.true c.requires.short
+          (iff_false c.is_next.ensures w.if-is_next.false))
     ]

@@ -15,7 +15,11 @@ overflow_mul-pairs c =
     let k = c.c.inside.k in
     let t = c.c.inside.t in
     let out = c.loop-removed.removed in
-    omega (arith, schonheim-small (v - out) (k - out) (t - out) c.loop-removed.blocks (v - (out - 1)) c.loop-removed.invariant (omega arith) (omega arith) (omega arith) (omega arith))
+    omega (
+      arith,
+      schonheim-small (v - out) (k - out) (t - out) c.loop-removed.blocks
+          (v - (out - 1)) c.loop-removed.invariant (omega arith) (omega arith) (omega arith) (omega arith),
+    )
 
 pub loop-removed-preserved : goal.loop-removed-preserved
 loop-removed-preserved c =
@@ -24,7 +28,8 @@ loop-removed-preserved c =
     let t = c.c.inside.t in
     let out = c.loop-removed.removed in
     c.div_ceil-blocks.ensures
-    ∙ schonheim-next (v - out) (k - out) (t - out) c.loop-removed.blocks (v - (out - 1)) (k - (out - 1)) (t - (out - 1)) c.loop-removed.invariant
+    ∙ schonheim-next (v - out) (k - out) (t - out) c.loop-removed.blocks (v - (out - 1)) (k - (out - 1))
+    (t - (out - 1)) c.loop-removed.invariant
     (omega arith) (omega arith) (omega arith)
 
 pub returns-clause-value : goal.returns-clause-value
@@ -37,14 +42,16 @@ returns-clause-value c =
     let all_k : k - out ≡ k = omega arith in
     let all_t : t - out ≡ t = omega arith in
     rw (← c.c.view_is)
-    (c.loop-removed.invariant ∙ ap (λ n. schonheim n (k - out) (t - out)) all_v ∙ ap (λ n. schonheim v n (t - out)) all_k ∙ ap (schonheim v k) all_t)
+    (c.loop-removed.invariant ∙ ap (λ n. schonheim n (k - out) (t - out)) all_v ∙ ap
+    (λ n. schonheim v n (t - out)) all_k ∙ ap (schonheim v k) all_t)
 
 pub returns-clause-covering : goal.returns-clause-covering
 returns-clause-covering c = λ bs covers.
     let cell = c.args.c in
     let sets : cell.t ≤ cell.k = rw (← c.c.view_is) (omega arith) in
     let blocks : cell.k ≤ cell.v = rw (← c.c.view_is) (omega arith) in
-    subst (λ n. n ≤ length bs) (sym (returns-clause-value c)) (c.schonheim_bounds.ensures.covering cell.v cell.k cell.t bs sets blocks covers)
+    subst (λ n. n ≤ length bs) (sym (returns-clause-value c))
+    (c.schonheim_bounds.ensures.covering cell.v cell.k cell.t bs sets blocks covers)
 
 pub returns-clause-derivable : goal.returns-clause-derivable
 returns-clause-derivable c = λ n derivable.

@@ -1,5 +1,0 @@
-use Rattle.lj_cover.proofs.Elementary.{add_covers}
-use Rattle.lj_cover.proofs.laws.add_covers.Goals as goal
-
-pub returns : goal.returns
-returns c = add_covers

@@ -1,9 +1,0 @@
-use Rattle.lj_base.proofs.Lists.{length-sets}
-use Rattle.lj_cover.proofs.Bases.{all_cover}
-use Rattle.lj_cover.proofs.laws.all_cover.Goals as goal
-
-pub returns-clause-covers : goal.returns-clause-covers
-returns-clause-covers c = all_cover
-
-pub returns-clause-counts : goal.returns-clause-counts
-returns-clause-counts c = length-sets

@@ -1,5 +1,0 @@
-use Rattle.lj_cover.proofs.Removing.{derived2_covers}
-use Rattle.lj_cover.proofs.laws.derived2_covers.Goals as goal
-
-pub returns : goal.returns
-returns c = derived2_covers

@@ -1,5 +1,0 @@
-use Rattle.lj_cover.proofs.Removing.{derived_covers}
-use Rattle.lj_cover.proofs.laws.derived_covers.Goals as goal
-
-pub returns : goal.returns
-returns c = derived_covers

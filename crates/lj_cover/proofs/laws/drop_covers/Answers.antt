@@ -1,5 +1,0 @@
-use Rattle.lj_cover.proofs.Elementary.{drop_covers}
-use Rattle.lj_cover.proofs.laws.drop_covers.Goals as goal
-
-pub returns : goal.returns
-returns c = drop_covers

@@ -1,5 +1,0 @@
-use Rattle.lj_cover.proofs.Elementary.{grow_covers}
-use Rattle.lj_cover.proofs.laws.grow_covers.Goals as goal
-
-pub returns : goal.returns
-returns c = grow_covers

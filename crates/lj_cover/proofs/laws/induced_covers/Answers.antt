@@ -1,5 +1,0 @@
-use Rattle.lj_cover.proofs.Inducing.{induced_covers}
-use Rattle.lj_cover.proofs.laws.induced_covers.Goals as goal
-
-pub returns : goal.returns
-returns c = induced_covers

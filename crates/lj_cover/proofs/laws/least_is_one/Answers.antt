@@ -1,8 +1,0 @@
-use Rattle.lj_cover.proofs.Leasts.{least_by_members, least_one}
-use Rattle.lj_cover.proofs.laws.least_is_one.Goals as goal
-
-pub returns-clause-one : goal.returns-clause-one
-returns-clause-one c = least_one
-
-pub returns-clause-by_members : goal.returns-clause-by_members
-returns-clause-by_members c = least_by_members

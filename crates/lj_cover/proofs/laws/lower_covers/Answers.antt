@@ -1,5 +1,0 @@
-use Rattle.lj_cover.proofs.Elementary.{lower_covers}
-use Rattle.lj_cover.proofs.laws.lower_covers.Goals as goal
-
-pub returns : goal.returns
-returns c = lower_covers

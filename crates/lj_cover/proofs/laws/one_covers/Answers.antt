@@ -1,5 +1,0 @@
-use Rattle.lj_cover.proofs.Bases.{one_covers}
-use Rattle.lj_cover.proofs.laws.one_covers.Goals as goal
-
-pub returns : goal.returns
-returns c = one_covers

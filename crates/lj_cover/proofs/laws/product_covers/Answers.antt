@@ -1,5 +1,0 @@
-use Rattle.lj_cover.proofs.Joining.{product_covers}
-use Rattle.lj_cover.proofs.laws.product_covers.Goals as goal
-
-pub returns : goal.returns
-returns c = product_covers

@@ -1,9 +1,0 @@
-use Rattle.lj_cover.proofs.Degrees.{schonheim_bounds}
-use Rattle.lj_cover.proofs.Leasts.{schonheim_derivable}
-use Rattle.lj_cover.proofs.laws.schonheim_bounds.Goals as goal
-
-pub returns-clause-covering : goal.returns-clause-covering
-returns-clause-covering c = schonheim_bounds
-
-pub returns-clause-derivable : goal.returns-clause-derivable
-returns-clause-derivable c = schonheim_derivable
