@@ -1,9 +1,11 @@
 -- Block lines: k different points from 1 to v, in any order. Inside the program points are numbered from 0.
-use Rattle.std.specs.Prelude.{◌≡◌, ℕ, suc, ◌+◌, ◌≤◌, ◌&&◌, ◌⊎◌, ◌↔◌, nat_eq, nat_le, nat_lt, if◌then◌else◌, List, [], ◌∷◌, ◌++◌, Option, None, Some, length, map, take, decimal}
+use Rattle.std.specs.Prelude.{◌≡◌, ℕ, suc, ◌+◌, ◌≤◌, ◌&&◌, ◌⊎◌, ◌↔◌, nat_eq, nat_le, nat_lt, if◌then◌else◌, List, []}
+use Rattle.std.specs.Prelude.{◌∷◌, ◌++◌}
+use Rattle.std.specs.Prelude.{Option, None, Some, length, map, take, decimal}
 use Rattle.std.specs.Option.{option_or, option_to_list}
-use Rattle.std.specs.List.{AllByRecursion, AllZip, list_any}
+use Rattle.std.specs.List.{AllByRecursion, list_any}
 use Rattle.lj_base.specs.Blocks.{Has, IsBlock}
-use Rattle.lj_text.specs.Numbers.{number_of}
+use Rattle.lj_text.specs.Numbers.{Spells, number_of}
 use Rattle.lj_text.specs.Tokens.{join_by_space, token_text, tokens_of}
 use Rattle.lj_text.specs.declared.tokens.Token.{Token}
 use Rattle.lj_blockfile.specs.declared.faults.LineFault.{LineFault}
@@ -17,7 +19,7 @@ AllDifferent (n ∷ ns) = (Has ns n → ⊥) × AllDifferent ns
 -- the line has k tokens, each a number from 1 to v, all different, and b is the block of these points
 pub record IsBlockLine (line : List ℕ) (v k : ℕ) (b : List ℕ) : Type 0 where
   pub numbers : List ℕ
-  pub spelled : AllZip (λ token n. number_of (token_text line token) ≡ Some n) (tokens_of line) numbers
+  pub spelled : Spells line (tokens_of line) numbers
   pub count : length numbers ≡ k
   pub in_range : AllByRecursion (λ n. (1 ≤ n) × (n ≤ v)) numbers
   pub different : AllDifferent numbers
@@ -28,11 +30,12 @@ pub record IsBlockLine (line : List ℕ) (v k : ℕ) (b : List ℕ) : Type 0 whe
 abbrev pub AddsPoint : List ℕ → List ℕ → ℕ → Type 0
 AddsPoint before now n = ((p : ℕ) → Has now p ↔ ((suc p ≡ n) ⊎ Has before p)) × (length now ≡ length before + 1)
 
--- the fault of a token that spells this, behind tokens that spell the earlier numbers
+-- the fault of a token that spells this, after tokens that spell the earlier numbers
 abbrev pub token_fault : ℕ → List ℕ → Token → Option ℕ → Option LineFault
 token_fault v earlier token None = Some (NotNumber token.column)
 token_fault v earlier token (Some n) =
-    if nat_le 1 n && nat_le n v then (if list_any (λ m. nat_eq m n) earlier then Some (Repeat n) else None) else Some (PointRange n)
+    if nat_le 1 n && nat_le n v then (if list_any (λ m. nat_eq m n) earlier then Some (Repeat n) else None)
+    else Some (PointRange n)
 
 -- the fault of the first of these tokens that has one
 abbrev pub first_fault : ℕ → List ℕ → List ℕ → List Token → Option LineFault

@@ -1,26 +1,22 @@
 -- Block files with a header: the first line names a cell and the number of blocks, and the block lines follow.
-use Rattle.std.specs.Prelude.{◌≡◌, ℕ, ◌≤◌, List, [], ◌∷◌, ◌++◌, Some, decimal, length, map}
-use Rattle.std.specs.List.{AllZip}
+use Rattle.std.specs.Prelude.{◌≡◌, ℕ, ◌≤◌, List, [], ◌∷◌, ◌++◌, decimal, length, map}
 use Rattle.lj_base.specs.Cells.{IsCell, Triple}
 use Rattle.lj_text.specs.Lines.{after_line, line_text, text_lines}
-use Rattle.lj_text.specs.Numbers.{number_of}
-use Rattle.lj_text.specs.Tokens.{join_by_space, token_text, tokens_of}
+use Rattle.lj_text.specs.Tokens.{join_by_space, tokens_of}
 use Rattle.lj_text.specs.declared.lines.Line.{Line}
-use Rattle.lj_text.specs.declared.tokens.Token.{Token}
 use Rattle.lj_blockfile.specs.BlockFiles.{blocks_text}
+use Rattle.lj_text.specs.Numbers.{Spells}
 use Rattle.lj_blockfile.specs.declared.headers.Header.{Header}
 
--- these tokens of a line spell these numbers, in order
-abbrev pub Spells : List ℕ → List Token → List ℕ → Type 0
-Spells line tokens numbers = AllZip (λ token n. number_of (token_text line token) ≡ Some n) tokens numbers
-
--- the first line that is not blank has four numbers: v, k and t of a cell with k of 1 or more, and the number of blocks;
--- the header tells the line's number, and the place behind it
+-- the first line that is not blank has four numbers: v, k and t of a cell with k of 1 or more, and the number of
+-- blocks;
+-- the header has the line's number, and the place after it
 pub record IsHeader (body : List ℕ) (header : Header) : Type 0 where
   pub first : Line
   pub others : List Line
   pub lines : text_lines body ≡ first ∷ others
-  pub spelled : Spells (line_text body first) (tokens_of (line_text body first)) (header.cell.v ∷ header.cell.k ∷ header.cell.t ∷ header.n ∷ [])
+  pub spelled : Spells (line_text body first) (tokens_of (line_text body first))
+      (header.cell.v ∷ header.cell.k ∷ header.cell.t ∷ header.n ∷ [])
   pub in_limits : IsCell header.cell
   pub some : 1 ≤ header.cell.k
   pub line_is : header.line ≡ first.number

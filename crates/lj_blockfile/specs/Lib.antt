@@ -1,3 +1,4 @@
 pub mod BlockLines
 pub mod BlockFiles
+pub mod FaultTexts
 pub mod Headers

@@ -11,10 +11,10 @@ pub enum LineFault {
     PointRange { value: u64 },
     #[error("point {point} is repeated")]
     Repeat { point: u64 },
-    /// So many tokens are too few.
+    /// The line has too few tokens; their number.
     #[error("too few points: {count}")]
     Short { count: u64 },
-    /// So many tokens are too many.
+    /// The line has too many tokens; their number.
     #[error("too many points: {count}")]
     Long { count: u64 },
 }
@@ -22,7 +22,7 @@ pub enum LineFault {
 /// Why a text holds no blocks.
 #[derive(Clone, Copy, Debug, PartialEq, Eq, Error)]
 pub enum BodyFault {
-    /// More than 100,000 lines that are not blank.
+    /// More than `MAX_BLOCKS` lines are not blank; their number.
     #[error("{n} blocks are too many")]
     Blocks { n: u64 },
     /// The first line with a fault, numbered from 1 with blank lines counted.

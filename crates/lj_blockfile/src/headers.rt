@@ -1,22 +1,22 @@
-ghost use Rattle.std.specs.Prelude.{◌≡◌, ℕ, ◌+◌, ◌≤◌, [], ◌∷◌, ◌++◌, drop, take, length, IfOk, IfSome, IsNone, List, Ok, OnErr, OnOk, Some};
+ghost use Rattle.std.specs.Prelude.{◌≡◌, ℕ, ◌+◌, ◌≤◌, [], ◌∷◌, ◌++◌, drop, take, length, IfOk, IfSome, IsNone, List};
+ghost use Rattle.std.specs.Prelude.{Ok, OnErr, OnOk, Some};
 ghost use Rattle.std.specs.List.{AllByRecursion};
 ghost use Rattle.lj_base.specs.Blocks.{AreBlocks};
-ghost use Rattle.lj_text.specs.Lines.{after_line};
-ghost use Rattle.lj_text.specs.Numbers.{number_of};
+ghost use Rattle.lj_text.specs.Fields.{Extends};
+ghost use Rattle.lj_text.specs.Lines.{IsLineNumber, after_line};
+ghost use Rattle.lj_text.specs.Numbers.{Spells, number_of};
 ghost use Rattle.lj_text.specs.Tokens.{IsTokenOf, token_text, tokens_of};
 ghost use Rattle.lj_blockfile.specs.BlockFiles.{AreBlocksOf};
-ghost use Rattle.lj_blockfile.specs.Headers.{IsHeader, Spells, file_text, header_line};
+ghost use Rattle.lj_blockfile.specs.Headers.{IsHeader, file_text, header_line};
 
 use crate::laws::file_law;
 use crate::write::put_blocks;
-use lj_base::{Block, Cell, Memory};
-use lj_text::{
-    Lines, Tokens, after_line, decimal_law, lines_law, number, put, put_number, tokens_law,
-};
+use lj_base::{Block, Cell, MAX_BLOCKS, Memory};
+use lj_text::{Lines, Tokens, after_line, cut_back, line_numbers_law, number, put, put_joined};
 use thiserror::Error;
 
-/// The first line of a block file: its cell, the number of its blocks, the line's number from 1 with blank lines counted,
-/// and the place of the first byte behind it.
+/// The first line of a block file: its cell, the number of its blocks, the line's number from 1 with blank lines
+/// counted, and the place of the first byte after it.
 #[derive(Clone, Copy, Debug, PartialEq, Eq)]
 pub struct Header {
     pub cell: Cell,
@@ -30,13 +30,15 @@ pub struct Header {
 #[error("no header")]
 pub struct NoHeader;
 
-/// The header of a block file: four numbers on the first line that is not blank, V, K and T of a cell with K of 1 or more,
-/// and the number of blocks. It looks at no further line, and takes no memory.
+/// The header of a block file: four numbers on the first line that is not blank, V, K and T of a cell with K of 1 or
+/// more, and the number of blocks. It looks at no further line, and takes no memory.
 pub fn read_header(body: &[u8]) -> Result<Header, NoHeader>
     ensures header { IfOk result (IsHeader body.now) }
     ensures within { IfOk result (λ header. header.rest ≤ length body.now) }
+    ensures line { IfOk result (λ header. IsLineNumber body.now header.line) }
     ensures complete { (header : Header) → IsHeader body.now header → result ≡ Ok header }
 {
+    line_numbers_law();
     let first = Lines::of(body).next().ok_or(NoHeader)?;
     let text = &body[first.start as usize..first.stop as usize];
     let [v, k, t, n] = four_numbers(text).ok_or(NoHeader)?;
@@ -55,7 +57,8 @@ pub fn read_header(body: &[u8]) -> Result<Header, NoHeader>
 // The numbers of a line of four.
 fn four_numbers(line: &[u8]) -> Option<[u64; 4]>
     ensures some { IfSome result (Spells line.now (tokens_of line.now)) }
-    ensures none { (a b c d : ℕ) → Spells line.now (tokens_of line.now) (a ∷ b ∷ c ∷ d ∷ []) → result ≡ Some (a ∷ b ∷ c ∷ d ∷ []) }
+    ensures none { (a b c d : ℕ) → Spells line.now (tokens_of line.now) (a ∷ b ∷ c ∷ d ∷ []) →
+        result ≡ Some (a ∷ b ∷ c ∷ d ∷ []) }
 {
     let mut tokens = Tokens::of(line);
     let a = next_number(line, &mut tokens)?;
@@ -72,8 +75,10 @@ fn four_numbers(line: &[u8]) -> Option<[u64; 4]>
 fn next_number(line: &[u8], tokens: &mut Tokens) -> Option<u64>
     requires { AllByRecursion (IsTokenOf line.now) tokens.old }
     ensures inside { AllByRecursion (IsTokenOf line.now) tokens.new }
-    ensures some { IfSome result (λ n. (ns : List ℕ) → Spells line.now tokens.new ns → Spells line.now tokens.old (n ∷ ns)) }
-    ensures none { (n : ℕ) (ns : List ℕ) → Spells line.now tokens.old (n ∷ ns) → (result ≡ Some n) × Spells line.now tokens.new ns }
+    ensures some { IfSome result (λ n. (ns : List ℕ) → Spells line.now tokens.new ns →
+        Spells line.now tokens.old (n ∷ ns)) }
+    ensures none { (n : ℕ) (ns : List ℕ) → Spells line.now tokens.old (n ∷ ns) →
+        (result ≡ Some n) × Spells line.now tokens.new ns }
 {
     let token = tokens.next()?;
     number(&line[token.start as usize..token.stop as usize]).ok()
@@ -82,44 +87,40 @@ fn next_number(line: &[u8], tokens: &mut Tokens) -> Option<u64>
 /// Appends a block file: the header's line and a line for each block. What it appends reads back.
 pub fn write_file(cell: Cell, blocks: &[Block], out: &mut Vec<u8>) -> Result<(), Memory>
     requires some { 1 ≤ cell.k }
-    requires few { length blocks.now ≤ 100000 }
+    requires few { length blocks.now ≤ MAX_BLOCKS }
     requires blocks { AreBlocks cell.v cell.k blocks.now }
     ensures ok { OnOk result (out.new.items ≡ out.old.items ++ file_text cell blocks.now) }
     ensures err { OnErr result (out.new.items ≡ out.old.items) }
-    ensures header { IsHeader (file_text cell blocks.now) (record { cell = cell; n = length blocks.now; line = 1; rest = length (header_line cell (length blocks.now)) + 1 }) }
-    ensures reads_back { AreBlocksOf (drop (length (header_line cell (length blocks.now)) + 1) (file_text cell blocks.now)) cell.v cell.k blocks.now }
+    ensures header { IsHeader (file_text cell blocks.now) (record {
+      cell = cell;
+      n = length blocks.now;
+      line = 1;
+      rest = length (header_line cell (length blocks.now)) + 1;
+    }) }
+    ensures reads_back { AreBlocksOf
+        (drop (length (header_line cell (length blocks.now)) + 1) (file_text cell blocks.now))
+        cell.v cell.k blocks.now }
 {
     file_law();
     let start = out.len();
     let result = append_file(cell, blocks, out);
-    if result.is_err() {
-        out.truncate(start);
-    }
-    result
+    cut_back(out, start, result)
 }
 
-// Appends the file; after an error a part of it may have been appended.
+// Appends the file; where memory ran out a part of it may have been appended.
 fn append_file(cell: Cell, blocks: &[Block], out: &mut Vec<u8>) -> Result<(), Memory>
     ensures ok { OnOk result (out.new.items ≡ out.old.items ++ file_text cell blocks.now) }
-    ensures err { OnErr result (take (length out.old.items) out.new.items ≡ out.old.items) }
+    ensures err { OnErr result (Extends out.old.items out.new.items) }
 {
-    append_header(cell, blocks.len() as u64, out)?;
+    let numbers = [
+        u64::from(cell.v),
+        u64::from(cell.k),
+        u64::from(cell.t),
+        blocks.len() as u64,
+    ];
+    put_joined(out, b' ', &numbers)?;
+    put(out, b"\n")?;
     put_blocks(blocks, out)
-}
-
-// Appends the header's line and LF; after an error a part of it may have been appended.
-fn append_header(cell: Cell, n: u64, out: &mut Vec<u8>) -> Result<(), Memory>
-    ensures ok { OnOk result (out.new.items ≡ out.old.items ++ (header_line cell n ++ 10 ∷ [])) }
-    ensures err { OnErr result (take (length out.old.items) out.new.items ≡ out.old.items) }
-{
-    put_number(out, u64::from(cell.v))?;
-    put(out, b" ")?;
-    put_number(out, u64::from(cell.k))?;
-    put(out, b" ")?;
-    put_number(out, u64::from(cell.t))?;
-    put(out, b" ")?;
-    put_number(out, n)?;
-    put(out, b"\n")
 }
 
 #[cfg(test)]

@@ -1,19 +1,17 @@
-ghost use Rattle.std.specs.Prelude.{◌≡◌, ℕ, suc, ◌<◌, ◌≤◌, IfErr, IfOk, IfSome, List, MatchResult, None, OnOk, Some, length, map};
+ghost use Rattle.std.specs.Prelude.{◌≡◌, ℕ, suc, ◌<◌, ◌≤◌, IfErr, IfOk, IfSome, List, MatchResult, None, OnOk, Some};
+ghost use Rattle.std.specs.Prelude.{length, map};
 ghost use Rattle.std.specs.Result.{result_err};
 ghost use Rattle.lj_base.specs.Blocks.{AreBlocks};
 ghost use Rattle.lj_text.specs.Lines.{text_lines};
 ghost use Rattle.lj_text.specs.Numbers.{number_of};
 ghost use Rattle.lj_text.specs.Tokens.{IsTokenOf, token_text};
-ghost use Rattle.lj_blockfile.specs.BlockFiles.{AreBlocksOf, IsBodyFault};
+ghost use Rattle.lj_blockfile.specs.BlockFiles.{AreBlocksOf, HasLineNumber, IsBodyFault};
 ghost use Rattle.lj_blockfile.specs.BlockLines.{AddsPoint, IsBlockLine, line_fault, token_fault};
 
 use crate::faults::{BodyFault, LineFault};
-use lj_base::Block;
-use lj_text::{Lines, Token, Tokens, number};
+use lj_base::{Block, MAX_BLOCKS};
+use lj_text::{Lines, Token, Tokens, line_numbers_law, number};
 use std::alloc::Global;
-
-/// The most lines that are read.
-const MAX_BLOCKS: u64 = 100_000;
 
 /// The block of a line: `k` different points from 1 to `v`, in any order. It goes over the line once, and takes no
 /// memory.
@@ -50,7 +48,8 @@ fn add_point(block: &mut Block, line: &[u8], token: &Token, v: u64) -> Result<()
     requires room { length block.old < 25 }
     requires below { v ≤ 99 }
     ensures added { OnOk result (IfSome (number_of (token_text line.now token.now)) (AddsPoint block.old block.new)) }
-    ensures fault { result_err result ≡ token_fault v (map suc block.old) token.now (number_of (token_text line.now token.now)) }
+    ensures fault { result_err result
+        ≡ token_fault v (map suc block.old) token.now (number_of (token_text line.now token.now)) }
 {
     let Ok(value) = number(&line[token.start as usize..token.stop as usize]) else {
         return Err(LineFault::NotNumber {
@@ -75,12 +74,15 @@ pub fn read_blocks(alloc: Global, body: &[u8], v: u64, k: u64) -> Result<Vec<Blo
     requires below { v ≤ 99 }
     ensures blocks { IfOk result (λ blocks. AreBlocksOf body.now v k blocks.items) }
     ensures shape { IfOk result (λ blocks. AreBlocks v k blocks.items) }
-    ensures few { IfOk result (λ blocks. length blocks.items ≤ 100000) }
+    ensures few { IfOk result (λ blocks. length blocks.items ≤ MAX_BLOCKS) }
     ensures fault { IfErr result (IsBodyFault body.now v k) }
+    ensures line { IfErr result (HasLineNumber body.now) }
 
-    // Where it holds blocks, only memory can be wanting.
-    ensures complete { (bs : List (List ℕ)) → AreBlocksOf body.now v k bs → MatchResult result (λ blocks. blocks.items ≡ bs) (λ fault. fault ≡ BodyFault.Memory) }
+    // Where it holds blocks, the only error is that memory ran out.
+    ensures complete { (bs : List (List ℕ)) → AreBlocksOf body.now v k bs →
+        MatchResult result (λ blocks. blocks.items ≡ bs) (λ fault. fault ≡ BodyFault.Memory) }
 {
+    line_numbers_law();
     let lines = line_count(body);
     if lines > MAX_BLOCKS {
         return Err(BodyFault::Blocks { n: lines });

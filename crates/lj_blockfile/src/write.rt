@@ -1,10 +1,12 @@
-ghost use Rattle.std.specs.Prelude.{◌≡◌, ◌<◌, ◌≤◌, ℕ, [], ◌∷◌, ◌++◌, length, take, OnErr, OnOk};
+ghost use Rattle.std.specs.Prelude.{◌≡◌, ◌<◌, ◌≤◌, ℕ, [], ◌∷◌, ◌++◌, length, OnErr, OnOk};
 ghost use Rattle.lj_base.specs.Blocks.{Ascends};
+ghost use Rattle.lj_text.specs.Fields.{Extends};
 ghost use Rattle.lj_blockfile.specs.BlockFiles.{blocks_text};
 ghost use Rattle.lj_blockfile.specs.BlockLines.{IsBlockLine, block_line};
 
+use crate::laws::block_line_law;
 use lj_base::{Block, Memory};
-use lj_text::{decimal_law, put, put_number, tokens_law};
+use lj_text::{cut_back, put, put_number, put_number_field};
 
 /// Appends the block's line: its points from 1, ascending, with one space between each two, and LF.
 pub fn write_block(block: &Block, out: &mut Vec<u8>) -> Result<(), Memory>
@@ -15,26 +17,24 @@ pub fn write_block(block: &Block, out: &mut Vec<u8>) -> Result<(), Memory>
     ensures reads_back { (v : ℕ) → 0 < length block.now → Ascends 0 v block.now → v ≤ 99
         → IsBlockLine (block_line block.now) v (length block.now) block.now }
 {
-    decimal_law();
-    tokens_law();
+    block_line_law();
     let start = out.len();
     let result = append_line(block, out);
-    if result.is_err() {
-        out.truncate(start);
-    }
-    result
+    cut_back(out, start, result)
 }
 
-// Appends the line; after an error a part of it may have been appended.
+// Appends the line; where memory ran out a part of it may have been appended.
 fn append_line(block: &Block, out: &mut Vec<u8>) -> Result<(), Memory>
     ensures ok { OnOk result (out.new.items ≡ out.old.items ++ block_line block.now ++ 10 ∷ []) }
-    ensures err { OnErr result (take (length out.old.items) out.new.items ≡ out.old.items) }
+    ensures err { OnErr result (Extends out.old.items out.new.items) }
 {
     for i in 0..block.len() {
+        let number = block.at(i) as u64 + 1;
         if i > 0 {
-            put(out, b" ")?;
+            put_number_field(out, number)?;
+        } else {
+            put_number(out, number)?;
         }
-        put_number(out, block.at(i) as u64 + 1)?;
     }
     put(out, b"\n")
 }
@@ -44,18 +44,15 @@ pub fn put_blocks(blocks: &[Block], out: &mut Vec<u8>) -> Result<(), Memory>
     ensures ok { OnOk result (out.new.items ≡ out.old.items ++ blocks_text blocks.now) }
     ensures err { OnErr result (out.new.items ≡ out.old.items) }
 {
-    let before = out.len();
+    let start = out.len();
     let result = append_blocks(blocks, out);
-    if result.is_err() {
-        out.truncate(before);
-    }
-    result
+    cut_back(out, start, result)
 }
 
-// Appends a line for each block; after an error a part of them may have been appended.
+// Appends a line for each block; where memory ran out a part of them may have been appended.
 fn append_blocks(blocks: &[Block], out: &mut Vec<u8>) -> Result<(), Memory>
     ensures ok { OnOk result (out.new.items ≡ out.old.items ++ blocks_text blocks.now) }
-    ensures err { OnErr result (take (length out.old.items) out.new.items ≡ out.old.items) }
+    ensures err { OnErr result (Extends out.old.items out.new.items) }
 {
     for block in blocks {
         write_block(block, out)?;

@@ -1,4 +1,8 @@
 pub mod Cutting
+pub mod Joined
+pub mod NumberLines
+pub mod Pieces
+pub mod PlainWords
 pub mod LineLaws
 pub mod Sending
 pub mod Spelling

@@ -1,18 +1,22 @@
 -- Laws of the lines of a text: where they stand, and that written lines read back.
-use Rattle.std.proofs.Common.{◌≡◌, ℕ, suc, ◌+◌, ◌-◌, ◌<◌, ◌≤◌, true, false, eqb, List, [], ◌∷◌, ◌++◌, length, take, refl, sym, ap, ◌∙◌, subst, arith, ⊎_elim, ◌≢◌, map, append_assoc, length-append, ap₂, ne_eqb, append-nil, decimal, ◌^◌}
-use Rattle.std.proofs.lemmas.Bool.{and_left, cases_Bool}
+use Rattle.std.proofs.Common.{◌<◌, ◌≡◌, ℕ, suc, ◌+◌, ◌-◌, ◌≤◌, true, false, eqb, List, [], ◌∷◌, ◌++◌, length, take}
+use Rattle.std.proofs.Common.{refl, sym, ap, ◌∙◌, subst, arith, ⊎_elim, ◌≢◌, map, append_assoc, length-append, ap₂}
+use Rattle.std.proofs.Common.{ne_eqb}
+use Rattle.std.proofs.lemmas.Bool.{cases_Bool}
 use Rattle.std.proofs.lemmas.List.{drop_at, take_at}
 use Rattle.std.specs.List.{AllByRecursion, list_all}
-use Rattle.lj_text.specs.Lines.{IsLineOf, IsPlain, cut_lines, is_blank, line_text, lines_from, onto, placed_from, text_lines, with_feeds, without_return}
-use Rattle.lj_text.specs.Tokens.{IsWord, join_by_space}
-use Rattle.lj_text.proofs.Spelling.{IsWord-decimal, high-decimal}
+use Rattle.lj_base.proofs.Lists.{AllByRecursion-weaker}
+use Rattle.lj_text.specs.declared.lines.Line.{Line}
+use Rattle.lj_text.specs.Lines.{IsLineNumber, IsLineOf, IsPlain, cut_lines, is_blank, line_text, line_total, lines_from}
+use Rattle.lj_text.specs.Lines.{onto, placed_from, text_lines, with_feeds, without_return}
 
--- the lines, from a place on, with a byte behind each but the last, end by n
+-- the lines, from a place on, with a byte after each but the last, end by n
 abbrev EndBy : ℕ → List (List ℕ) → ℕ → Type 0
 EndBy start [] n = Unit {0}
 EndBy start (line ∷ lines) n = (start + length line ≤ n) × EndBy (start + length line + 1) lines n
 
-EndBy-onto : (byte start : ℕ) (lines : List (List ℕ)) (n : ℕ) → start + 1 ≤ n → EndBy (start + 1) lines n → EndBy start (onto byte lines) n
+EndBy-onto : (byte start : ℕ) (lines : List (List ℕ)) (n : ℕ) → start + 1 ≤ n → EndBy (start + 1) lines n
+    → EndBy start (onto byte lines) n
 EndBy-onto byte start [] n inside h = (omega arith, tt)
 EndBy-onto byte start (line ∷ lines) n inside h =
     let here : start + 1 + length line + 1 ≡ start + suc (length line) + 1 = omega arith in
@@ -30,10 +34,12 @@ EndBy-cut_lines (b ∷ bs) start n inside =
 pub length-without_return : (line : List ℕ) → length (without_return line) ≤ length line
 length-without_return [] = omega arith
 length-without_return (b ∷ []) =
-    ⊎_elim (λ (h : eqb b 13 ≡ true). rw h (omega arith)) (λ (h : eqb b 13 ≡ false). rw h (omega arith)) (cases_Bool (eqb b 13))
+    ⊎_elim (λ (h : eqb b 13 ≡ true). rw h (omega arith)) (λ (h : eqb b 13 ≡ false). rw h (omega arith))
+    (cases_Bool (eqb b 13))
 length-without_return (b ∷ (c ∷ cs)) = let rest = length-without_return (c ∷ cs) in omega arith
 
-IsLineOf-lines_from : (bytes : List ℕ) (lines : List (List ℕ)) (number start : ℕ) → EndBy start lines (length bytes) → AllByRecursion (IsLineOf bytes) (lines_from number start lines)
+IsLineOf-lines_from : (bytes : List ℕ) (lines : List (List ℕ)) (number start : ℕ) → EndBy start lines (length bytes)
+    → AllByRecursion (IsLineOf bytes) (lines_from number start lines)
 IsLineOf-lines_from bytes [] number start h = tt
 IsLineOf-lines_from bytes (line ∷ lines) number start h =
     let rest = IsLineOf-lines_from bytes lines (suc number) (start + length line + 1) h.1 in
@@ -45,7 +51,8 @@ IsLineOf-lines_from bytes (line ∷ lines) number start h =
     (cases_Bool (list_all is_blank text))
 
 pub IsLineOf-text_lines : (bytes : List ℕ) → AllByRecursion (IsLineOf bytes) (text_lines bytes)
-IsLineOf-text_lines bytes = IsLineOf-lines_from bytes (cut_lines bytes) 1 0 (EndBy-cut_lines bytes 0 (length bytes) (omega arith))
+IsLineOf-text_lines bytes =
+    IsLineOf-lines_from bytes (cut_lines bytes) 1 0 (EndBy-cut_lines bytes 0 (length bytes) (omega arith))
 
 length-lines_from : (lines : List (List ℕ)) (number start : ℕ) → length (lines_from number start lines) ≤ length lines
 length-lines_from [] number start = omega arith
@@ -70,102 +77,101 @@ length-cut_lines (b ∷ bs) =
     (λ (h : eqb b 10 ≡ false). rw h (omega (arith, length-onto b (cut_lines bs))))
     (cases_Bool (eqb b 10))
 
+-- ---- the numbers of lines
+
+within_numbers : (low high : ℕ) (lines : List (List ℕ)) (number start : ℕ) → low ≤ number → number + length lines ≤ high
+    → AllByRecursion (λ line. (low ≤ line.number) × (line.number < high)) (lines_from number start lines)
+within_numbers low high [] number start from to = tt
+within_numbers low high (line ∷ lines) number start from to =
+    let rest = within_numbers low high lines (suc number) (start + length line + 1) (omega arith) (omega arith) in
+    let text = without_return line in
+    ⊎_elim
+    (λ (k : list_all is_blank text ≡ true). rw k rest)
+    (λ (k : list_all is_blank text ≡ false). rw k ((omega arith, omega arith), rest))
+    (cases_Bool (list_all is_blank text))
+
+pub are_line_numbers : (bytes : List ℕ) → AllByRecursion (λ line. IsLineNumber bytes line.number) (text_lines bytes)
+are_line_numbers bytes =
+    let few = length-cut_lines bytes in
+    AllByRecursion-weaker (λ (line : Line). (1 ≤ line.number) × (line.number < 1 + line_total bytes))
+    (λ line. IsLineNumber bytes line.number) (text_lines bytes)
+    (λ line known. record { some = known.0; within = omega (arith, known.1); small = omega (arith, known.1, few) })
+    (within_numbers 1 (1 + line_total bytes) (cut_lines bytes) 1 0 (omega arith) (omega arith))
+
 pub length-text_lines : (bytes : List ℕ) → length (text_lines bytes) ≤ length bytes
 length-text_lines bytes = omega (arith, length-lines_from (cut_lines bytes) 1 0, length-cut_lines bytes)
 
--- ---- lines with LF behind each read back
+-- ---- lines with LF after each read back
 
-cut_lines-feed : (line rest : List ℕ) → AllByRecursion (λ byte. byte ≢ 10) line → cut_lines (line ++ 10 ∷ rest) ≡ line ∷ cut_lines rest
+cut_lines-feed : (line rest : List ℕ) → AllByRecursion (λ byte. byte ≢ 10) line
+    → cut_lines (line ++ 10 ∷ rest) ≡ line ∷ cut_lines rest
 cut_lines-feed [] rest h = refl
 cut_lines-feed (b ∷ bs) rest h =
     let other : eqb b 10 ≡ false = ne_eqb _ _ h.0 in
     rw (other, cut_lines-feed bs rest h.1) refl
 
-line_text-line : (front line rest : List ℕ) (number : ℕ) → line_text (front ++ (line ++ rest)) (record { number = number; start = length front; stop = length front + length line }) ≡ line
+line_text-line : (front line rest : List ℕ) (number : ℕ)
+    → line_text (front ++ (line ++ rest))
+    (record { number = number; start = length front; stop = length front + length line }) ≡ line
 line_text-line front line rest number =
     let long : length front + length line - length front ≡ length line = omega arith in
-    rw long (ap (take (length line)) (drop_at front (line ++ rest) (length front) refl) ∙ take_at line rest (length line) refl)
+    rw long
+    (ap (take (length line)) (drop_at front (line ++ rest) (length front) refl) ∙ take_at line rest (length line) refl)
 
-texts-feeds : (lines : List (List ℕ)) (front bytes : List ℕ) (number : ℕ) → bytes ≡ front ++ with_feeds lines → AllByRecursion IsPlain lines → map (line_text bytes) (lines_from number (length front) (cut_lines (with_feeds lines))) ≡ lines
+texts-feeds : (lines : List (List ℕ)) (front bytes : List ℕ) (number : ℕ) → bytes ≡ front ++ with_feeds lines
+    → AllByRecursion IsPlain lines
+    → map (line_text bytes) (lines_from number (length front) (cut_lines (with_feeds lines))) ≡ lines
 texts-feeds [] front bytes number is h = refl
 texts-feeds (line ∷ lines) front bytes number is h =
     let rest = with_feeds lines in
     let whole : (line ++ 10 ∷ []) ++ rest ≡ line ++ (10 ∷ rest) = append_assoc line (10 ∷ []) rest in
-    let cut : cut_lines ((line ++ 10 ∷ []) ++ rest) ≡ line ∷ cut_lines rest = ap cut_lines whole ∙ cut_lines-feed line rest h.0.1 in
+    let cut : cut_lines ((line ++ 10 ∷ []) ++ rest) ≡ line ∷ cut_lines rest =
+    ap cut_lines whole ∙ cut_lines-feed line rest h.0.1 in
     let not_blank : list_all is_blank line ≡ false = h.0.0 in
     let same : without_return line ≡ line = h.0.2 in
     let stop : ℕ = length front + length line in
     let here : bytes ≡ front ++ (line ++ (10 ∷ rest)) = is ∙ ap (λ l. front ++ l) whole in
     let text : line_text bytes (record { number = number; start = length front; stop = stop }) ≡ line =
-    ap (λ l. line_text l (record { number = number; start = length front; stop = stop })) here ∙ line_text-line front line (10 ∷ rest) number in
+    ap (λ l. line_text l (record { number = number; start = length front; stop = stop })) here
+    ∙ line_text-line front line (10 ∷ rest) number in
     let count : length (front ++ (line ++ 10 ∷ [])) ≡ stop + 1 =
     length-append front (line ++ 10 ∷ []) ∙ ap (λ n. length front + n) (length-append line (10 ∷ [])) ∙ omega arith in
-    let more = texts-feeds lines (front ++ (line ++ 10 ∷ [])) bytes (suc number) (is ∙ sym (append_assoc front (line ++ 10 ∷ []) rest)) h.1 in
-    let others : map (line_text bytes) (lines_from (suc number) (stop + 1) (cut_lines rest)) ≡ lines = subst (λ n. map (line_text bytes) (lines_from (suc number) n (cut_lines rest)) ≡ lines) count more in
-    ap (λ l. map (line_text bytes) (lines_from number (length front) l)) cut ∙ rw (same, not_blank) (ap₂ (λ t l. t ∷ l) text others)
+    let longer = is ∙ sym (append_assoc front (line ++ 10 ∷ []) rest) in
+    let more = texts-feeds lines (front ++ (line ++ 10 ∷ [])) bytes (suc number) longer h.1 in
+    let others : map (line_text bytes) (lines_from (suc number) (stop + 1) (cut_lines rest)) ≡ lines =
+    subst (λ n. map (line_text bytes) (lines_from (suc number) n (cut_lines rest)) ≡ lines) count more in
+    ap (λ l. map (line_text bytes) (lines_from number (length front) l)) cut
+    ∙ rw (same, not_blank) (ap₂ (λ t l. t ∷ l) text others)
 
-pub text_lines-feeds : (lines : List (List ℕ)) → AllByRecursion IsPlain lines → map (line_text (with_feeds lines)) (text_lines (with_feeds lines)) ≡ lines
+pub text_lines-feeds : (lines : List (List ℕ)) → AllByRecursion IsPlain lines
+    → map (line_text (with_feeds lines)) (text_lines (with_feeds lines)) ≡ lines
 text_lines-feeds lines h = texts-feeds lines [] (with_feeds lines) 1 refl h
 
--- the lines stand one behind the other
-lines_from-feeds : (lines : List (List ℕ)) (number start : ℕ) → AllByRecursion IsPlain lines → lines_from number start (cut_lines (with_feeds lines)) ≡ placed_from number start lines
+-- the lines stand one after the other
+lines_from-feeds : (lines : List (List ℕ)) (number start : ℕ) → AllByRecursion IsPlain lines
+    → lines_from number start (cut_lines (with_feeds lines)) ≡ placed_from number start lines
 lines_from-feeds [] number start h = refl
 lines_from-feeds (line ∷ lines) number start h =
-    let whole : (line ++ 10 ∷ []) ++ with_feeds lines ≡ line ++ (10 ∷ with_feeds lines) = append_assoc line (10 ∷ []) (with_feeds lines) in
-    let cut : cut_lines ((line ++ 10 ∷ []) ++ with_feeds lines) ≡ line ∷ cut_lines (with_feeds lines) = ap cut_lines whole ∙ cut_lines-feed line (with_feeds lines) h.0.1 in
+    let whole : (line ++ 10 ∷ []) ++ with_feeds lines ≡ line ++ (10 ∷ with_feeds lines) =
+    append_assoc line (10 ∷ []) (with_feeds lines) in
+    let cut : cut_lines ((line ++ 10 ∷ []) ++ with_feeds lines) ≡ line ∷ cut_lines (with_feeds lines) =
+    ap cut_lines whole ∙ cut_lines-feed line (with_feeds lines) h.0.1 in
     let not_blank : list_all is_blank line ≡ false = h.0.0 in
     let same : without_return line ≡ line = h.0.2 in
     let more = lines_from-feeds lines (suc number) (start + length line + 1) h.1 in
-    ap (lines_from number start) cut ∙ rw (same, not_blank) (ap (λ l. record { number = number; start = start; stop = start + length line } ∷ l) more)
+    ap (lines_from number start) cut
+    ∙ rw (same, not_blank) (ap (λ l. record { number = number; start = start; stop = start + length line } ∷ l) more)
 
-pub text_lines-placed : (lines : List (List ℕ)) → AllByRecursion IsPlain lines → text_lines (with_feeds lines) ≡ placed_from 1 0 lines
+pub text_lines-placed : (lines : List (List ℕ)) → AllByRecursion IsPlain lines
+    → text_lines (with_feeds lines) ≡ placed_from 1 0 lines
 text_lines-placed lines h = lines_from-feeds lines 1 0 h
 
 -- a plain line before LF is the first line
-pub text_lines-first : (line rest : List ℕ) → IsPlain line → text_lines (line ++ 10 ∷ rest) ≡ record { number = 1; start = 0; stop = length line } ∷ lines_from 2 (length line + 1) (cut_lines rest)
+pub text_lines-first : (line rest : List ℕ) → IsPlain line
+    → text_lines (line ++ 10 ∷ rest)
+    ≡ record { number = 1; start = 0; stop = length line } ∷ lines_from 2 (length line + 1) (cut_lines rest)
 text_lines-first line rest h =
     let not_blank : list_all is_blank line ≡ false = h.0 in
     let same : without_return line ≡ line = h.2 in
     let count : 0 + length line ≡ length line = omega arith in
     ap (lines_from 1 0) (cut_lines-feed line rest h.1) ∙ rw (same, not_blank, count) refl
-
--- ---- numbers that are joined by spaces are a plain line
-
-kept_without : (line : List ℕ) → AllByRecursion (λ byte. byte ≢ 13) line → without_return line ≡ line
-kept_without [] h = refl
-kept_without (b ∷ []) h = let other : eqb b 13 ≡ false = ne_eqb _ _ h.0 in rw other refl
-kept_without (b ∷ (c ∷ cs)) h = ap (λ l. b ∷ l) (kept_without (c ∷ cs) h.1)
-
-module _ (P : ℕ → Type 0) where
-  All-append : (xs ys : List ℕ) → AllByRecursion P xs → AllByRecursion P ys → AllByRecursion P (xs ++ ys)
-  All-append [] ys h k = k
-  All-append (x ∷ xs) ys h k = (h.0, All-append xs ys h.1 k)
-
-  All-join : (words : List (List ℕ)) → P 32 → AllByRecursion (AllByRecursion P) words → AllByRecursion P (join_by_space words)
-  All-join [] space h = tt
-  All-join (w ∷ []) space h = h.0
-  All-join (w ∷ (v ∷ words)) space h = All-append w (32 ∷ join_by_space (v ∷ words)) h.0 (space, All-join (v ∷ words) space h.1)
-
-not_blank-append : (word rest : List ℕ) → IsWord word → list_all is_blank (word ++ rest) ≡ false
-not_blank-append [] rest h = absurd (omega (arith, h.0))
-not_blank-append (b ∷ bs) rest h = and_left _ _ h.1.0
-
-not_blank-join : (word : List ℕ) (words : List (List ℕ)) → IsWord word → list_all is_blank (join_by_space (word ∷ words)) ≡ false
-not_blank-join word [] h = subst (λ l. list_all is_blank l ≡ false) (append-nil word) (not_blank-append word [] h)
-not_blank-join word (v ∷ words) h = not_blank-append word (32 ∷ join_by_space (v ∷ words)) h
-
--- a fact of each digit holds of each byte of the numbers
-bytes-numbers : (P : ℕ → Type 0) → ((byte : ℕ) → 48 ≤ byte → P byte) → (ns : List ℕ) → AllByRecursion (λ n. n < 2 ^ 64) ns → AllByRecursion (AllByRecursion P) (map decimal ns)
-bytes-numbers P digit [] h = tt
-bytes-numbers P digit (n ∷ ns) h = (high-decimal P digit n h.0, bytes-numbers P digit ns h.1)
-
-pub IsPlain-numbers : (ns : List ℕ) → 1 ≤ length ns → AllByRecursion (λ n. n < 2 ^ 64) ns → IsPlain (join_by_space (map decimal ns))
-IsPlain-numbers [] some h = absurd (omega arith)
-IsPlain-numbers (n ∷ ns) some h =
-    let words = map decimal (n ∷ ns) in
-    let no_feed : (byte : ℕ) → 48 ≤ byte → byte ≢ 10 = λ byte k e. omega (arith, e) in
-    let no_return : (byte : ℕ) → 48 ≤ byte → byte ≢ 13 = λ byte k e. omega (arith, e) in (
-      not_blank-join (decimal n) (map decimal ns) (IsWord-decimal n h.0),
-      All-join (λ byte. byte ≢ 10) words (λ e. omega (arith, e)) (bytes-numbers _ no_feed (n ∷ ns) h),
-      kept_without (join_by_space words) (All-join (λ byte. byte ≢ 13) words (λ e. omega (arith, e)) (bytes-numbers _ no_return (n ∷ ns) h)),
-    )

@@ -1,4 +1,5 @@
-pub mod Causes
+pub mod Inputs
+pub mod Fields
 pub mod Lines
 pub mod Numbers
 pub mod Tokens

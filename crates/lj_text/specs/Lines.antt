@@ -1,6 +1,7 @@
 -- The lines of a text. A line ends at LF or at the end of the text, and one CR at its end is left off.
 -- A line of blanks alone is blank. The last LF begins no further line.
-use Rattle.std.specs.Prelude.{◌≡◌, ◌≢◌, ℕ, suc, ◌+◌, ◌≤◌, Bool, ◌||◌, ◌==◌, if◌then◌else◌, min, List, [], ◌∷◌, ◌++◌, drop, length, slice_range, IsFalse}
+use Rattle.std.specs.Prelude.{◌≡◌, ◌≢◌, ℕ, suc, ◌+◌, ◌≤◌, Bool, ◌||◌, ◌==◌, if◌then◌else◌, min, List, [], ◌∷◌, ◌++◌}
+use Rattle.std.specs.Prelude.{drop, length, slice_range, IsFalse}
 use Rattle.std.specs.List.{AllByRecursion, flat_map, list_all, position_or_len}
 use Rattle.lj_text.specs.declared.lines.Line.{Line}
 
@@ -30,7 +31,8 @@ lines_from number start [] = []
 lines_from number start (line ∷ lines) =
     let rest = lines_from (suc number) (start + length line + 1) lines in
     let text = without_return line in
-    if list_all is_blank text then rest else record { number = number; start = start; stop = start + length text } ∷ rest
+    if list_all is_blank text then rest
+    else record { number = number; start = start; stop = start + length text } ∷ rest
 
 -- the lines of a text that are not blank, in order
 abbrev pub text_lines : List ℕ → List Line
@@ -44,25 +46,38 @@ line_text bytes line = slice_range bytes line.start line.stop
 abbrev pub IsLineOf : List ℕ → Line → Type 0
 IsLineOf bytes line = (line.start ≤ line.stop) × (line.stop ≤ length bytes)
 
--- the place behind the LF that ends a line, or behind the text where none does
+-- how many lines a text has, with the blank ones
+abbrev pub line_total : List ℕ → ℕ
+line_total bytes = length (cut_lines bytes)
+
+-- the number of a line of the text: lines are numbered from 1, and there are no more lines than bytes
+pub record IsLineNumber (bytes : List ℕ) (n : ℕ) : Type 0 where
+  pub some : 1 ≤ n
+  pub within : n ≤ line_total bytes
+  pub small : n ≤ length bytes
+
+-- the place after the LF that ends a line, or the end of the text where none does
 abbrev pub after_line : List ℕ → Line → ℕ
-after_line bytes line = min (length bytes) (line.stop + position_or_len (λ byte. byte == 10) (drop line.stop bytes) + 1)
+after_line bytes line =
+    min (length bytes) (line.stop + position_or_len (λ byte. byte == 10) (drop line.stop bytes) + 1)
 
 -- the bytes of a line that reads back as it was written: it is not blank, has no LF, and no CR at its end
 abbrev pub IsPlain : List ℕ → Type 0
 IsPlain text = IsFalse (list_all is_blank text) × AllByRecursion (λ byte. byte ≢ 10) text × (without_return text ≡ text)
 
--- the lines with LF behind each
+-- the lines with LF after each
 abbrev pub with_feeds : List (List ℕ) → List ℕ
 with_feeds lines = flat_map (λ line. line ++ 10 ∷ []) lines
 
--- where lines stand that follow each other with a byte behind each; the first is line `number` and begins at `start`
+-- where lines stand that follow each other with a byte after each; the first is line `number` and begins at `start`
 abbrev pub placed_from : ℕ → ℕ → List (List ℕ) → List Line
 placed_from number start [] = []
 placed_from number start (line ∷ lines) =
-    record { number = number; start = start; stop = start + length line } ∷ placed_from (suc number) (start + length line + 1) lines
+    record { number = number; start = start; stop = start + length line } ∷ placed_from (suc number)
+    (start + length line + 1) lines
 
--- from a place on, the lines stand in the text, each behind the one before
+-- from a place on, the lines stand in the text, each after the one before
 abbrev pub StandFrom : List ℕ → ℕ → List Line → Type 0
 StandFrom bytes place [] = Unit {0}
-StandFrom bytes place (line ∷ lines) = (place ≤ line.start) × IsLineOf bytes line × StandFrom bytes (after_line bytes line) lines
+StandFrom bytes place (line ∷ lines) =
+    (place ≤ line.start) × IsLineOf bytes line × StandFrom bytes (after_line bytes line) lines

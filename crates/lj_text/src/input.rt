@@ -1,6 +1,6 @@
 ghost use Rattle.std.specs.Prelude.{◌≡◌, ◌≤◌, length, IfErr, IfOk, IfSome, OnOk};
 ghost use Rattle.lj_base.specs.Streams.{IsAtEnd};
-ghost use Rattle.lj_text.specs.Causes.{HasCause};
+ghost use Rattle.lj_text.specs.Inputs.{HasCause, HasRead};
 
 use lj_base::{Failed, Source};
 use std::alloc::Global;
@@ -18,16 +18,21 @@ pub enum ReadFail {
     Memory,
 }
 
-/// How many bytes one call asks a source for.
-const PIECE: usize = 65536;
+/// The most bytes that one read takes from a source.
+pub const PIECE: usize = 65536;
 
-/// Reads a source to its end, up to `limit` bytes. After an error some of the source's bytes may have been taken.
+/// Reads a source to its end, up to `limit` bytes. It stops at the first read that fails, and at the first after which
+/// it has more than `limit` bytes.
 pub fn read_all<S: Source>(alloc: Global, source: &mut S, limit: u64) -> Result<Vec<u8>, ReadFail>
     ensures bytes { IfOk result (λ bytes. IfSome (S.left source.old) (λ all. bytes.items ≡ all)) }
     ensures within { IfOk result (λ bytes. length bytes.items ≤ limit) }
     ensures whole { OnOk result (IsAtEnd (S.left source.new)) }
     ensures quiet { OnOk result (S.faults source.new ≡ S.faults source.old) }
-    ensures cause { IfErr result (HasCause limit (S.left source.old) (S.faults source.old) (S.faults source.new)) }
+    ensures read { IfOk result (λ bytes. HasRead (S.left source.old) (S.left source.new) bytes.items limit) }
+
+    // Where not all was read: how much was, and why.
+    ensures cause { IfErr result
+        (HasCause limit (S.left source.old) (S.left source.new) (S.faults source.old) (S.faults source.new)) }
 {
     let mut bytes = Vec::new(alloc);
     let mut piece = [0; PIECE];

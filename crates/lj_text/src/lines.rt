@@ -76,7 +76,7 @@ impl<'a> Iterator for Lines<'a> {
     }
 }
 
-/// The place behind the LF that ends a line of the text, or behind the text where none does.
+/// The place after the LF that ends a line of the text, or the end of the text where none does.
 pub fn after_line(bytes: &[u8], line: &Line) -> u64
     requires inside { IsLineOf bytes.now line.now }
     ensures place { result ≡ after_line bytes.now line.now }

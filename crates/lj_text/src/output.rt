@@ -1,8 +1,7 @@
-ghost use Rattle.std.specs.Prelude.{◌≡◌, ℕ, ◌<◌, ◌++◌, decimal, length, take, IfErr, OnErr, OnOk};
+ghost use Rattle.std.specs.Prelude.{◌≡◌, ℕ, ◌<◌, length, take, IfErr, OnErr, OnOk};
 ghost use Rattle.lj_base.specs.Streams.{Appends, Rose};
 
-use itoa::Buffer;
-use lj_base::{Failed, Memory, Sink};
+use lj_base::{Failed, Sink};
 use thiserror::Error;
 
 /// A sink failed; its count of faults since.
@@ -10,24 +9,6 @@ use thiserror::Error;
 #[error("writing failed, {count} faults so far")]
 pub struct WriteFault {
     pub count: u64,
-}
-
-/// Appends bytes.
-pub fn put(out: &mut Vec<u8>, bytes: &[u8]) -> Result<(), Memory>
-    ensures ok { OnOk result (out.new.items ≡ out.old.items ++ bytes.now) }
-    ensures err { OnErr result (out.new.items ≡ out.old.items) }
-{
-    out.extend_from_slice(bytes)?;
-    Ok(())
-}
-
-/// Appends a number in decimal digits.
-pub fn put_number(out: &mut Vec<u8>, n: u64) -> Result<(), Memory>
-    ensures ok { OnOk result (out.new.items ≡ out.old.items ++ decimal n) }
-    ensures err { OnErr result (out.new.items ≡ out.old.items) }
-{
-    let mut digits = Buffer::new();
-    put(out, digits.format(n).as_bytes())
 }
 
 /// Writes all bytes, in as many pieces as the sink takes.

@@ -3,13 +3,11 @@ use Rattle.lj_blockfile.proofs.laws.file_law.Goals as goal
 
 pub returns : goal.returns
 returns c =
-    let word = c.decimal_law.ensures.word in
-    let value = c.decimal_law.ensures.value in
-    let words = c.tokens_law.ensures.words in
-    let plain = c.lines_law.ensures.plain in
-    let numbers = c.lines_law.ensures.numbers in
     let first = c.lines_law.ensures.first in
+    let plain = c.number_line_law.ensures.plain in
+    let spelled = c.number_line_law.ensures.spelled in
+    let written = c.written_law.ensures in
     record {
-      header = IsHeader-file_text word value words plain numbers first;
-      blocks = AreBlocksOf-file_text word value words plain numbers first;
+      header = IsHeader-file_text first plain spelled written;
+      blocks = AreBlocksOf-file_text first plain spelled written;
     }

@@ -10,7 +10,8 @@ returns-then-not-insert-clause-fault c =
     let value = c.in-Ok.value in
     let b = c.args.block.now in
     let next : suc (value - 1) ≡ value = omega arith in
-    let there : Has (map suc b) value = subst (Has (map suc b)) next ((Has-map_suc b (value - 1)).1 c.if-not-insert.ensures.there.0) in
+    let there : Has (map suc b) value =
+    subst (Has (map suc b)) next ((Has-map_suc b (value - 1)).1 c.if-not-insert.ensures.there.0) in
     sym (token_fault-repeat c.args.v value (map suc b) c.args.token.now (omega arith) (omega arith) there)
     ∙ ap (token_fault c.args.v (map suc b) c.args.token.now) c.in-Ok.ensures.value
 

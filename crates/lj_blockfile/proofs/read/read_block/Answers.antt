@@ -2,7 +2,8 @@ use Rattle.std.proofs.Common.{◌∙◌, Ok, arith, ap, length, subst}
 use Rattle.std.proofs.lemmas.Result.{err_from_is_err_and}
 use Rattle.std.specs.List.{AllByRecursion}
 use Rattle.lj_text.specs.Tokens.{IsTokenOf}
-use Rattle.lj_blockfile.proofs.Reading.{IsBlockLine-end, IsUnderway-past, IsUnderway-read, IsUnderway-start, count-end, fault-here, with_left}
+use Rattle.lj_blockfile.proofs.Reading.{IsBlockLine-end, IsUnderway-past, IsUnderway-read, IsUnderway-start, count-end}
+use Rattle.lj_blockfile.proofs.Reading.{fault-here, with_left}
 use Rattle.lj_blockfile.proofs.Unique.{line_fault-none, same_block}
 use Rattle.lj_blockfile.proofs.read.read_block.Goals as goal
 use Rattle.lj_blockfile.proofs.read.read_block.Goals.{then-len-k+in_ok-add_point, else-len-k}
@@ -12,7 +13,9 @@ loop-token-init c =
     let same = c.into_iter-token-iterator.ensures.into_iter_gives in
     let inside = c.of-token-items.ensures.inside in
     record {
-      underway = rw (same ∙ c.of-token-items.ensures.walk, c.empty-block.ensures) (IsUnderway-start c.args.line.now c.args.v c.args.k);
+      underway =
+          rw (same ∙ c.of-token-items.ensures.walk, c.empty-block.ensures)
+          (IsUnderway-start c.args.line.now c.args.v c.args.k);
       inside = rw same inside;
       few = rw same (omega (arith, c.of-token-items.ensures.len));
     }
@@ -37,7 +40,8 @@ loop-token-preserved c =
     let inside = subst (AllByRecursion (IsTokenOf c.args.line.now)) first c.loop-token.invariant.inside in
     record {
       underway = elim c.if-len-k.branch [
-        | then-len-k+in_ok-add_point w ↦ rw w.block-is (IsUnderway-read u _ (omega arith) w.in_ok-add_point.ensures.added w.in_ok-add_point.ensures.fault)
+        | then-len-k+in_ok-add_point w ↦ rw w.block-is
+            (IsUnderway-read u _ (omega arith) w.in_ok-add_point.ensures.added w.in_ok-add_point.ensures.fault)
         | else-len-k w ↦ rw w.block-is (IsUnderway-past u (omega arith))
       ];
       inside = inside.1;

@@ -9,5 +9,7 @@ use Rattle.lj_text.proofs.tokens.token_len.Goals as goal
 pub returns-clause-count : goal.returns-clause-count
 returns-clause-count c =
     let first : c.position-first.result ≡ position is_blank c.args.bytes.now =
-    position_from_yields_List is_blank _ _ _ c.position-first.ensures.ran (YieldsList-from_slice c.args.bytes.now cc) (λ x b q k. search (rules, tests)) in
-    c.unwrap_or.ensures ∙ ap (λ place. unwrap_or place (length c.args.bytes.now)) first ∙ unwrap_or-position is_blank c.args.bytes.now
+    position_from_yields_List is_blank _ _ _ c.position-first.ensures.ran (YieldsList-from_slice c.args.bytes.now cc)
+    (λ x b q k. search (rules, tests)) in
+    c.unwrap_or.ensures ∙ ap (λ place. unwrap_or place (length c.args.bytes.now)) first
+    ∙ unwrap_or-position is_blank c.args.bytes.now
