@@ -1,5 +1,8 @@
 pub mod Copies
 pub mod Fields
 pub mod Nodes
+pub mod Plans
 pub mod Stored
 pub mod Texts
+pub mod Trees
+pub mod Validity

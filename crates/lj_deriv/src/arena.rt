@@ -1,19 +1,24 @@
-ghost use Rattle.std.specs.Prelude.{◌≡◌, ℕ, ◌+◌, ◌-◌, ◌<◌, ◌≤◌, ◌^◌, [], ◌∷◌, ◌++◌, length, map, slice_index, IfOk, OnErr, OnOk};
+ghost use Rattle.std.specs.Prelude.{◌≡◌, ℕ, ◌+◌, ◌-◌, ◌<◌, ◌≤◌, [], ◌∷◌, ◌++◌};
+ghost use Rattle.std.specs.Prelude.{length, map, max, slice_index, IfOk, OnErr, OnOk};
 ghost use Rattle.std.specs.List.{AllByRecursion, flat_map};
 ghost use Rattle.lj_base.specs.Frames.{InFrame};
-ghost use Rattle.lj_cover.specs.Derivations.{IsDerivation, IsFrom, IsIn, IsSound, root_cell, root_cells, tree_cost, tree_costs};
-ghost use Rattle.lj_cover.specs.Rules.{IsCovering, cut_cost, rule_children, sum_of_products};
+ghost use Rattle.lj_cover.specs.Derivations.{IsIn, root_cell, tree_cost, tree_costs};
+ghost use Rattle.lj_cover.specs.Rules.{IsCovering, cut_cost, sum_of_products};
 ghost use Rattle.lj_cover.specs.Instances.{cut_counts, row_price};
-ghost use Rattle.lj_deriv.specs.Nodes.{AreValid, IsPlanOf, IsShaped, IsValid, build, children_of, node_tree, plan_tree, rule_at, rule_of, sizes_of, trees_at, trees_of, upload_at, uploads_of};
+ghost use Rattle.lj_deriv.specs.Nodes.{IsDerivedIn, node_tree, plan_tree, rule_tree};
+ghost use Rattle.lj_deriv.specs.Plans.{IsPlanOf};
+ghost use Rattle.lj_deriv.specs.Trees.{children_of, sizes_of, trees_at, trees_of, upload_at};
+ghost use Rattle.lj_deriv.specs.Validity.{AreValid, IsNode, IsValid};
 
 use crate::cells::{added, dropped, grown, lessened, lowered};
+use crate::copying::copy_reached;
 use crate::costs::{pair_degree, runs_cost};
-use crate::planning::copy_reached;
+use crate::limits::{MAX_ARENA_UPLOADS, MAX_NODES};
 use crate::plans::Plan;
 use crate::rules::{Part, Rule};
-use lj_base::{Cell, Frame, Memory, binom};
+use lj_base::{COST_LIMIT, Cell, Frame, Memory, binom};
 use lj_cover::degree;
-use lj_cover::laws::price_by_row;
+use lj_cover::laws::{expansion_covers, price_by_row};
 use lj_upload::Accepted;
 use std::alloc::Global;
 use std::marker::Model;
@@ -43,9 +48,15 @@ impl Model for Arena {
 
     ghost use Rattle.lj_deriv.specs.Stored.{AreHeld, AreStored, HasRoom, rules_of};
 
-    ghost view = { λ a. record { frame = a.frame; uploads = a.uploads.items; rules = rules_of a.nodes.items; spare = a.spare } };
+    ghost view = { λ a. record {
+      frame = a.frame;
+      uploads = a.uploads.items;
+      rules = rules_of a.nodes.items;
+      spare = a.spare;
+    } };
 
-    ghost invariant = { λ a. AreStored a.frame a.uploads.items a.nodes.items × AreHeld a.frame a.uploads.items × HasRoom (vec_len a.nodes) a.spare (vec_capacity a.nodes) };
+    ghost invariant = { λ a. AreStored a.frame a.uploads.items a.nodes.items × AreHeld a.frame a.uploads.items
+        × HasRoom (vec_len a.nodes) a.spare (vec_capacity a.nodes) };
 }
 
 impl Arena {
@@ -67,9 +78,11 @@ impl Arena {
         self.frame
     }
 
+    /// The uploads that it holds, in the order in which they came.
     pub fn uploads(&self) -> &[Accepted]
         ensures uploads { result.now ≡ self.now.uploads }
-        ensures few { length self.now.uploads ≤ 2 ^ 32 }
+        ensures few { length self.now.uploads ≤ MAX_ARENA_UPLOADS }
+        ensures covering { AllByRecursion IsCovering self.now.uploads }
         ensures inside { AllByRecursion (λ u. InFrame self.now.frame u.cell) self.now.uploads }
     {
         &self.uploads
@@ -78,10 +91,19 @@ impl Arena {
     /// The number of its nodes.
     pub fn len(&self) -> u64
         ensures len { result ≡ length self.now.rules }
-        ensures bounded { length self.now.rules + self.now.spare ≤ 2 ^ 59 }
+        ensures bounded { length self.now.rules + self.now.spare ≤ MAX_NODES }
         ensures valid { AreValid self.now.uploads self.now.rules }
     {
         self.nodes.len() as u64
+    }
+
+    /// Each node is a derivation in the frame and from the uploads. It does nothing.
+    pub fn nodes_derive(&self)
+        ensures { (i : ℕ) → i < length self.now.rules
+            → IsDerivedIn self.now.frame self.now.uploads (node_tree self.now i) }
+    {
+        expansion_covers();
+        let _ = &self.nodes;
     }
 
     /// How many nodes can be added without taking memory.
@@ -91,30 +113,30 @@ impl Arena {
         self.spare
     }
 
-    /// Appends an upload, and answers its place from 0.
+    /// Appends an upload, and returns its place from 0.
     pub fn push_upload(&mut self, up: Accepted) -> Result<u32, Memory>
         requires inside { InFrame self.old.frame up.cell }
-        requires few { length self.old.uploads < 2 ^ 32 }
+        requires few { length self.old.uploads < MAX_ARENA_UPLOADS }
         ensures place { IfOk result (λ u. u ≡ length self.old.uploads) }
         ensures ok { OnOk result (self.new ≡ record self.old { uploads = self.old.uploads ++ up ∷ [] }) }
         ensures err { OnErr result (self.new ≡ self.old) }
         ensures trees { (i : ℕ) → i < length self.old.rules → node_tree self.new i ≡ node_tree self.old i }
     {
+        let _ = up.design();
         let place = self.uploads.len() as u32;
         self.uploads.push(up)?;
         Ok(place)
     }
 
-    /// Makes room for `n` nodes. Room past 2^59 nodes is want of memory.
+    /// Makes room for `n` nodes. For more than `MAX_NODES` nodes there is no memory.
     pub fn reserve(&mut self, n: u64) -> Result<(), Memory>
-        ensures room { OnOk result (n ≤ self.new.spare) }
-        ensures same { self.new ≡ record self.old { spare = self.new.spare } }
-        ensures more { self.old.spare ≤ self.new.spare }
+        ensures ok { OnOk result (self.new ≡ record self.old { spare = max self.old.spare n }) }
+        ensures err { OnErr result (self.new ≡ self.old) }
     {
         if n <= self.spare {
             return Ok(());
         }
-        if n > (1 << 59) - self.nodes.len() as u64 {
+        if n > MAX_NODES - self.nodes.len() as u64 {
             return Err(Memory);
         }
         self.nodes.reserve(n as usize)?;
@@ -134,52 +156,45 @@ impl Arena {
     pub fn cost(&self, node: u64) -> u64
         requires { node < length self.now.rules }
         ensures cost { result ≡ tree_cost (node_tree self.now node) }
-        ensures derivation { IsDerivation (node_tree self.now node) }
-        ensures inside { IsIn self.now.frame (node_tree self.now node) }
-        ensures from { IsFrom self.now.uploads (node_tree self.now node) }
-        ensures small { result < 2 ^ 38 }
+        ensures some { 1 ≤ result }
+        ensures small { result < COST_LIMIT }
+        ensures derived { IsDerivedIn self.now.frame self.now.uploads (node_tree self.now node) }
     {
+        self.nodes_derive();
         self.nodes[node as usize].cost
     }
 
     /// A node's rule.
     pub fn rule(&self, node: u64) -> &Rule
         requires { node < length self.now.rules }
-        ensures rule { result.now ≡ rule_at self.now.rules node }
-        ensures shaped { IsShaped self.now.uploads result.now }
-        ensures children { AllByRecursion (λ j. j < node) (children_of self.now.uploads result.now) }
-        ensures uploads { AllByRecursion (λ u. u < length self.now.uploads) (uploads_of result.now) }
-        ensures sound { IsSound (rule_of self.now.uploads (trees_of self.now.uploads self.now.rules) result.now) }
-        ensures fitting { root_cells (trees_at (trees_of self.now.uploads self.now.rules) (children_of self.now.uploads result.now))
-            ≡ rule_children (rule_of self.now.uploads (trees_of self.now.uploads self.now.rules) result.now) }
+        ensures node { IsNode self.now.uploads self.now.rules node result.now }
         ensures inside { IsIn self.now.frame (node_tree self.now node) }
-        ensures small { tree_cost (build self.now.uploads (trees_of self.now.uploads self.now.rules) result.now) < 2 ^ 38 }
-        ensures unfolds { node_tree self.now node ≡ build self.now.uploads (trees_of self.now.uploads self.now.rules) result.now }
     {
         &self.nodes[node as usize].rule
     }
 
-    /// Appends a node, and answers its number. It takes no memory.
+    /// Appends a node, and returns its number. It takes no memory.
     pub fn add(&mut self, rule: Rule) -> u64
         requires valid { IsValid self.old.uploads self.old.rules rule }
-        requires inside { InFrame self.old.frame (root_cell (build self.old.uploads (trees_of self.old.uploads self.old.rules) rule)) }
+        requires inside { InFrame self.old.frame (root_cell (rule_tree self.old rule)) }
         requires room { 1 ≤ self.old.spare }
         ensures number { result ≡ length self.old.rules }
         ensures rules { self.new.rules ≡ self.old.rules ++ rule ∷ [] }
         ensures same { self.new ≡ record self.old { rules = self.new.rules; spare = self.new.spare } }
-        ensures spare { self.old.spare ≤ self.new.spare + 1 }
-        ensures tree { node_tree self.new result ≡ build self.old.uploads (trees_of self.old.uploads self.old.rules) rule }
+        ensures spare { self.new.spare + 1 ≡ self.old.spare }
+        ensures tree { node_tree self.new result ≡ rule_tree self.old rule }
         ensures trees { (i : ℕ) → i < length self.old.rules → node_tree self.new i ≡ node_tree self.old i }
     {
         let number = self.len();
-        let cell = self.root(&rule);
-        let cost = self.price(&rule);
+        let cell = self.cell_of_rule(&rule);
+        let cost = self.cost_of_rule(&rule);
         self.nodes.push_reserved(Node { rule, cell, cost });
         self.spare -= 1;
         number
     }
 
-    /// The derivation of a node, which stands alone: the nodes that it reaches, in order, and the uploads that they name.
+    /// The derivation of a node, which stands alone: the nodes that it reaches, in order, and the uploads that they
+    /// name, in order. It takes time and memory for each node up to this one and for each upload.
     pub fn plan(&self, alloc: Global, root: u64) -> Result<Plan, Memory>
         requires { root < length self.now.rules }
         ensures plan { IfOk result (IsPlanOf self.now root) }
@@ -198,10 +213,10 @@ impl Arena {
         &self.uploads[u as usize]
     }
 
-    // The cell of the derivation that a rule stands for over these nodes.
-    fn root(&self, rule: &Rule) -> Cell
+    // The cell of the derivation that a rule gives over these nodes.
+    fn cell_of_rule(&self, rule: &Rule) -> Cell
         requires { IsValid self.now.uploads self.now.rules rule.now }
-        ensures { result ≡ root_cell (build self.now.uploads (trees_of self.now.uploads self.now.rules) rule.now) }
+        ensures { result ≡ root_cell (rule_tree self.now rule.now) }
     {
         match *rule {
             Rule::One { cell } => cell,
@@ -220,9 +235,9 @@ impl Arena {
     }
 
     // What a rule costs over these nodes.
-    fn price(&self, rule: &Rule) -> u64
+    fn cost_of_rule(&self, rule: &Rule) -> u64
         requires { IsValid self.now.uploads self.now.rules rule.now }
-        ensures { result ≡ tree_cost (build self.now.uploads (trees_of self.now.uploads self.now.rules) rule.now) }
+        ensures { result ≡ tree_cost (rule_tree self.now rule.now) }
     {
         price_by_row();
         match rule {
@@ -251,9 +266,12 @@ impl Arena {
 
     // Each part costs the product of the costs of its factors.
     fn product_cost(&self, parts: &[Part]) -> u64
-        requires there { AllByRecursion (λ i. i < length self.now.rules) (flat_map (λ p. p.first ∷ p.second ∷ []) parts.now) }
-        requires small { sum_of_products (tree_costs (trees_at (trees_of self.now.uploads self.now.rules) (flat_map (λ p. p.first ∷ p.second ∷ []) parts.now))) < 2 ^ 38 }
-        ensures { result ≡ sum_of_products (tree_costs (trees_at (trees_of self.now.uploads self.now.rules) (flat_map (λ p. p.first ∷ p.second ∷ []) parts.now))) }
+        requires there { AllByRecursion (λ i. i < length self.now.rules)
+            (flat_map (λ p. p.first ∷ p.second ∷ []) parts.now) }
+        requires small { sum_of_products (tree_costs (trees_at (trees_of self.now.uploads self.now.rules)
+            (flat_map (λ p. p.first ∷ p.second ∷ []) parts.now))) < COST_LIMIT }
+        ensures { result ≡ sum_of_products (tree_costs (trees_at (trees_of self.now.uploads self.now.rules)
+            (flat_map (λ p. p.first ∷ p.second ∷ []) parts.now))) }
     {
         let mut cost = 0;
         for part in parts {
@@ -266,9 +284,12 @@ impl Arena {
     fn induced_cost(&self, cell: Cell, up: &Accepted, children: &[u64; 26]) -> u64
         requires narrow { cell.v ≤ up.now.cell.v }
         requires covering { IsCovering up.now }
-        requires there { AllByRecursion (λ i. i < length self.now.rules) (map (λ l. slice_index children.now l) (sizes_of up.now cell.k cell.v)) }
-        requires small { row_price (λ c. tree_cost (node_tree self.now (slice_index children.now c.v))) cell (cut_counts cell.v up.now.blocks) < 2 ^ 38 }
-        ensures { result ≡ row_price (λ c. tree_cost (node_tree self.now (slice_index children.now c.v))) cell (cut_counts cell.v up.now.blocks) }
+        requires there { AllByRecursion (λ i. i < length self.now.rules)
+            (map (λ l. slice_index children.now l) (sizes_of up.now cell.k cell.v)) }
+        requires small { row_price (λ c. tree_cost (node_tree self.now (slice_index children.now c.v))) cell
+            (cut_counts cell.v up.now.blocks) < COST_LIMIT }
+        ensures { result ≡ row_price (λ c. tree_cost (node_tree self.now (slice_index children.now c.v))) cell
+            (cut_counts cell.v up.now.blocks) }
     {
         let counts = up.counts(u64::from(cell.v));
         let mut cost = 0;

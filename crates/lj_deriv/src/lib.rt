@@ -4,9 +4,10 @@
 mod arena;
 mod cells;
 mod children;
+mod copying;
 mod costs;
+mod limits;
 mod numbers;
-mod planning;
 mod plans;
 mod renumbering;
 mod rules;
@@ -15,6 +16,7 @@ mod tests;
 mod texts;
 
 pub use arena::Arena;
+pub use limits::{MAX_ARENA_UPLOADS, MAX_NODES};
 pub use numbers::Numbers;
 pub use plans::Plan;
 pub use rules::{Part, Rule};

@@ -1,27 +1,32 @@
-ghost use Rattle.std.specs.Prelude.{◌≡◌, ◌<◌, ◌^◌, ◌++◌, length, OnErr, OnOk};
+ghost use Rattle.std.specs.Prelude.{◌≡◌, ℕ, ◌<◌, ◌≤◌, ◌++◌, length, OnErr, OnOk};
 ghost use Rattle.std.specs.List.{AllByRecursion};
 ghost use Rattle.lj_base.specs.Blocks.{Covers};
-ghost use Rattle.lj_cover.specs.Derivations.{IsDerivation, IsFrom, IsSound, expand, root_cell, root_cells, tree_cost};
-ghost use Rattle.lj_cover.specs.Rules.{rule_children};
-ghost use Rattle.lj_deriv.specs.Nodes.{AreValid, IsShaped, IsWhole, build, children_of, plan_tree, rule_at, rule_of, step_tree, steps_of, trees_at, trees_of, upload_at, uploads_of};
+ghost use Rattle.lj_cover.specs.Derivations.{IsDerivation, IsFrom, expand, root_cell, tree_cost};
+ghost use Rattle.lj_cover.specs.Rules.{IsCovering};
+ghost use Rattle.lj_deriv.specs.Nodes.{plan_tree, step_tree, steps_of};
+ghost use Rattle.lj_deriv.specs.Plans.{IsNamed, IsWhole};
+ghost use Rattle.lj_deriv.specs.Texts.{Spelled, plan_text};
+ghost use Rattle.lj_deriv.specs.Trees.{children_of, rule_at, upload_at};
+ghost use Rattle.lj_deriv.specs.Validity.{AreValid, IsNode};
 
 use crate::arena::Arena;
 use crate::numbers::Numbers;
 use crate::rules::Rule;
-use lj_base::Cell;
+use lj_base::{COST_LIMIT, Cell};
 use lj_cover::laws::expansion_covers;
 use lj_upload::Accepted;
 use std::marker::Model;
 
-/// The derivation of one node, which stands alone. Its nodes are numbered from 0; the last is the root, and each other is
-/// a child of a later one. The uploads are those that its rules name.
+/// The derivation of one node, which stands alone. Its nodes are numbered from 0; the last is the root, and each other
+/// is a child of a later one. The uploads are those that its rules name.
 #[derive(Drop)]
 pub struct Plan {
     arena: Arena,
 }
 
 impl Model for Plan {
-    ghost use Rattle.lj_deriv.specs.Nodes.{IsWhole, Steps, steps_of};
+    ghost use Rattle.lj_deriv.specs.Nodes.{Steps, steps_of};
+    ghost use Rattle.lj_deriv.specs.Plans.{IsWhole};
 
     ghost Value = { Steps };
 
@@ -52,19 +57,22 @@ impl Plan {
         ensures derivation { IsDerivation (plan_tree self.now) }
         ensures covers { Covers (expand (plan_tree self.now)) (root_cell (plan_tree self.now)) }
         ensures counts { length (expand (plan_tree self.now)) ≡ result }
-        ensures small { result < 2 ^ 38 }
+        ensures some { 1 ≤ result }
+        ensures small { result < COST_LIMIT }
         ensures from { IsFrom self.now.uploads (plan_tree self.now) }
     {
         expansion_covers();
         self.arena.cost(self.arena.len() - 1)
     }
 
-    /// The number of its nodes.
+    /// The number of its nodes. Each is reached from the root, each upload is named by one of them, and the lines of
+    /// the text spell the derivation.
     pub fn len(&self) -> u64
         ensures len { result ≡ length self.now.rules }
         ensures some { 0 < result }
         ensures valid { AreValid self.now.uploads self.now.rules }
         ensures whole { IsWhole self.now }
+        ensures spelled { Spelled (plan_tree self.now) (plan_text self.now) }
     {
         self.arena.len()
     }
@@ -72,14 +80,7 @@ impl Plan {
     /// A node's rule. The children and the upload that it names are numbers of this plan.
     pub fn rule(&self, i: u64) -> &Rule
         requires { i < length self.now.rules }
-        ensures rule { result.now ≡ rule_at self.now.rules i }
-        ensures shaped { IsShaped self.now.uploads result.now }
-        ensures children { AllByRecursion (λ j. j < i) (children_of self.now.uploads result.now) }
-        ensures uploads { AllByRecursion (λ u. u < length self.now.uploads) (uploads_of result.now) }
-        ensures sound { IsSound (rule_of self.now.uploads (trees_of self.now.uploads self.now.rules) result.now) }
-        ensures fitting { root_cells (trees_at (trees_of self.now.uploads self.now.rules) (children_of self.now.uploads result.now))
-            ≡ rule_children (rule_of self.now.uploads (trees_of self.now.uploads self.now.rules) result.now) }
-        ensures unfolds { step_tree self.now i ≡ build self.now.uploads (trees_of self.now.uploads self.now.rules) result.now }
+        ensures { IsNode self.now.uploads self.now.rules i result.now }
     {
         self.arena.rule(i)
     }
@@ -106,10 +107,20 @@ impl Plan {
         requires { i < length self.now.rules }
         ensures cost { result ≡ tree_cost (step_tree self.now i) }
         ensures derivation { IsDerivation (step_tree self.now i) }
-        ensures small { result < 2 ^ 38 }
+        ensures some { 1 ≤ result }
+        ensures small { result < COST_LIMIT }
         ensures from { IsFrom self.now.uploads (step_tree self.now i) }
     {
         self.arena.cost(i)
+    }
+
+    /// The uploads that its rules name, each once.
+    pub fn uploads(&self) -> &[Accepted]
+        ensures uploads { result.now ≡ self.now.uploads }
+        ensures covering { AllByRecursion IsCovering self.now.uploads }
+        ensures named { (u : ℕ) → u < length self.now.uploads → IsNamed self.now u }
+    {
+        self.arena.uploads()
     }
 
     /// An upload that a rule of this plan names.

@@ -11,21 +11,30 @@ degree_at blocks x = count_by (λ b. has_point b x) blocks
 abbrev pub pair_degree_at : List (List ℕ) → ℕ → ℕ → ℕ
 pair_degree_at blocks x y = count_by (λ b. has_point b x && has_point b y) blocks
 
--- x is the first point below v that is on the fewest blocks, and it is on n
-pub record IsLeastDegree (v : ℕ) (blocks : List (List ℕ)) (x n : ℕ) : Type 0 where
-  pub inside : x < v
-  pub degree : n ≡ degree_at blocks x
-  pub least : (y : ℕ) → y < v → n ≤ degree_at blocks y
-  pub first : (y : ℕ) → y < x → n < degree_at blocks y
+-- x is the first number from lo on and below hi at which f is least, and f is n there
+pub record IsFirstLeast (lo hi : ℕ) (f : ℕ → ℕ) (x n : ℕ) : Type 0 where
+  pub from : lo ≤ x
+  pub below : x < hi
+  pub value : n ≡ f x
+  pub least : (y : ℕ) → lo ≤ y → y < hi → n ≤ f y
+  pub first : (y : ℕ) → lo ≤ y → y < x → n < f y
 
 -- the pair p, q comes before the pair x, y: by the first points, and by the second where those are the same
 abbrev pub PairBefore : ℕ → ℕ → ℕ → ℕ → Type 0
 PairBefore p q x y = (p < x) ⊎ ((p ≡ x) × (q < y))
 
--- x and y are the first pair of points below v that are together on the fewest blocks, and they are on n
-pub record IsLeastPair (v : ℕ) (blocks : List (List ℕ)) (x y n : ℕ) : Type 0 where
+-- of the pairs below v with a lesser point below m, x and y are the first at which f is least, and f is n there
+pub record IsFirstLeastPair (m v : ℕ) (f : ℕ → ℕ → ℕ) (x y n : ℕ) : Type 0 where
   pub order : x < y
   pub inside : y < v
-  pub degree : n ≡ pair_degree_at blocks x y
-  pub least : (p q : ℕ) → p < q → q < v → n ≤ pair_degree_at blocks p q
-  pub first : (p q : ℕ) → p < q → q < v → PairBefore p q x y → n < pair_degree_at blocks p q
+  pub value : n ≡ f x y
+  pub least : (p q : ℕ) → p < m → p < q → q < v → n ≤ f p q
+  pub first : (p q : ℕ) → p < q → q < v → PairBefore p q x y → n < f p q
+
+-- x is the first point below v that is on the fewest blocks, and it is on n
+abbrev pub IsLeastDegree : ℕ → List (List ℕ) → ℕ → ℕ → Type 0
+IsLeastDegree v blocks x n = IsFirstLeast 0 v (degree_at blocks) x n
+
+-- x and y are the first pair of points below v that are together on the fewest blocks, and they are on n
+abbrev pub IsLeastPair : ℕ → List (List ℕ) → ℕ → ℕ → ℕ → Type 0
+IsLeastPair v blocks x y n = IsFirstLeastPair v v (pair_degree_at blocks) x y n

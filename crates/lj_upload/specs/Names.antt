@@ -23,7 +23,8 @@ pub record Lies (n : ℕ) (array : List ℕ) : Type 0 where
   pub padded : array ≡ take n array ++ replicate (32 - n) 0
 
 -- the array, from the name
-pub array_back : (n : ℕ) (array : List ℕ) → Lies n array → take n array ++ replicate (32 - length (take n array)) 0 ≡ array
+pub array_back : (n : ℕ) (array : List ℕ) → Lies n array → take n array ++ replicate
+    (32 - length (take n array)) 0 ≡ array
 array_back n array h =
     let count : length (take n array) ≡ n = length-take-le n array (subst (λ m. n ≤ m) (sym h.size_is) h.within) in
     ap (λ m. take n array ++ replicate (32 - m) 0) count ∙ sym h.padded

@@ -2,17 +2,18 @@
 use Rattle.std.specs.Prelude.{◌≡◌, ℕ, ◌+◌, ◌≤◌, List, length, map}
 use Rattle.std.specs.Option.{MatchOption}
 use Rattle.std.specs.List.{range_with_len}
+use Rattle.lj_base.specs.declared.limits.TheConstants.{MAX_BLOCKS}
 use Rattle.lj_cover.specs.Rules.{IsCovering, Upload}
 use Rattle.lj_cover.specs.Instances.{cut_counts}
 use Rattle.lj_upload.specs.Names.{IsName}
 use Rattle.lj_upload.specs.Degrees.{IsLeastDegree, IsLeastPair}
 use Rattle.lj_upload.specs.declared.summaries.Summary.{Summary}
 
--- the upload covers its cell, a client has sent it, and it has at most 100,000 blocks
+-- the upload covers its cell, its client has a name, and it has at most `MAX_BLOCKS` blocks
 pub record IsAccepted (u : Upload) : Type 0 where
   pub covering : IsCovering u
   pub client : IsName u.client
-  pub blocks : length u.blocks ≤ 100000
+  pub blocks : length u.blocks ≤ MAX_BLOCKS
 
 -- for each w from 0 to v, how many of the blocks have l points below w, for each l from 0 to 25
 abbrev pub cut_table : ℕ → List (List ℕ) → List (List ℕ)

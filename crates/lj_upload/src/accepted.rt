@@ -1,16 +1,16 @@
-ghost use Rattle.std.specs.Prelude.{◌≡◌, ◌^◌, ◌<◌, ◌≤◌, [], ◌∷◌, IfOk, length};
+ghost use Rattle.std.specs.Prelude.{◌≡◌, ◌^◌, ◌<◌, ◌≤◌, ◌↔◌, [], ◌∷◌, IfOk, IsTrue, length};
 ghost use Rattle.lj_cover.specs.Instances.{cut_counts};
 ghost use Rattle.lj_upload.specs.Degrees.{IsLeastDegree, IsLeastPair};
 ghost use Rattle.lj_upload.specs.Uploads.{IsAccepted};
 
 use crate::names::Name;
 use crate::summaries::Summary;
-use lj_base::Memory;
+use lj_base::{MAX_BLOCKS, Memory};
 use lj_cover::Design;
 use std::alloc::Global;
 use std::marker::Model;
 
-/// A design of at most 100,000 blocks that a client has uploaded, with the summary of its blocks.
+/// A design of at most `MAX_BLOCKS` blocks that a client has uploaded, with the summary of its blocks.
 #[derive(Debug, Drop)]
 pub struct Accepted {
     client: Name,
@@ -26,21 +26,34 @@ impl Model for Accepted {
 
     ghost Value = { Upload };
 
-    ghost view = { λ a. record { client = a.client; ordinal = a.ordinal; cell = a.design.cell; blocks = a.design.blocks } };
+    ghost view = { λ a. record {
+      client = a.client;
+      ordinal = a.ordinal;
+      cell = a.design.cell;
+      blocks = a.design.blocks;
+    } };
 
-    ghost invariant = { λ a. let upload : Upload = record { client = a.client; ordinal = a.ordinal; cell = a.design.cell; blocks = a.design.blocks } in IsAccepted upload × (a.ordinal < 2 ^ 64) × IsSummary a.design.cell.v a.design.blocks a.summary };
+    ghost invariant = { λ a. let upload : Upload = record {
+      client = a.client;
+      ordinal = a.ordinal;
+      cell = a.design.cell;
+      blocks = a.design.blocks;
+    } in
+        IsAccepted upload × (a.ordinal < 2 ^ 64) × IsSummary a.design.cell.v a.design.blocks a.summary };
 }
 
 impl Accepted {
-    /// The summary is made here. Cost: for each block a step for each two of its points, and one for each point of the cell.
+    /// The summary is made here. Cost: for each block a step for each two of its points, and one for each point of the
+    /// cell.
     pub fn new(
         alloc: Global,
         client: Name,
         ordinal: u64,
         design: Design,
     ) -> Result<Accepted, Memory>
-        requires { length design.blocks ≤ 100000 }
-        ensures { IfOk result (λ a. a ≡ record { client = client; ordinal = ordinal; cell = design.cell; blocks = design.blocks }) }
+        requires { length design.blocks ≤ MAX_BLOCKS }
+        ensures { IfOk result (λ a. a
+            ≡ record { client = client; ordinal = ordinal; cell = design.cell; blocks = design.blocks }) }
     {
         let summary = Summary::of(alloc, &design)?;
         Ok(Accepted {
@@ -51,6 +64,7 @@ impl Accepted {
         })
     }
 
+    /// The name of the client that has uploaded it.
     pub fn client(&self) -> Name
         ensures { result ≡ self.now.client }
     {
@@ -64,6 +78,7 @@ impl Accepted {
         self.ordinal
     }
 
+    /// The cell and the blocks.
     pub fn design(&self) -> &Design
         ensures design { result.now ≡ record { cell = self.now.cell; blocks = self.now.blocks } }
         ensures accepted { IsAccepted self.now }
@@ -72,6 +87,7 @@ impl Accepted {
         &self.design
     }
 
+    /// The same upload, with the summary copied too. Cost: a step for each block, and one for each point of the cell.
     pub fn copy(&self, alloc: Global) -> Result<Accepted, Memory>
         ensures { IfOk result (λ a. a ≡ self.now) }
     {
@@ -81,6 +97,16 @@ impl Accepted {
             design: self.design.copy(alloc)?,
             summary: self.summary.copy(alloc)?,
         })
+    }
+
+    /// Whether the two have the same client, ordinal, cell and list of blocks. Cost: a step for each block.
+    pub fn same(&self, other: &Accepted) -> bool
+        ensures { IsTrue result ↔ (self.now ≡ other.now) }
+    {
+        self.client == other.client
+            && self.ordinal == other.ordinal
+            && self.design.cell() == other.design.cell()
+            && self.design.blocks() == other.design.blocks()
     }
 
     /// The first point of least degree, and its degree.
@@ -150,6 +176,7 @@ mod tests {
         assert_eq!(rt; again.least(), (0, 2));
         assert_eq!(rt; again.least_pair(), (0, 1, 1));
         assert_eq!(rt; again.counts(2), counts);
+        assert!(rt; again.same(&upload));
         Ok(())
     }
 }

@@ -1,4 +1,4 @@
-//! Uploads that were accepted, with what their rules ask of them, and the quota of uploads and blocks.
+//! Uploads that were accepted, with what the rules need of them, and the quota of uploads and blocks.
 #![tactic(auto)]
 
 mod accepted;
@@ -10,4 +10,4 @@ mod tables;
 
 pub use accepted::Accepted;
 pub use names::Name;
-pub use quotas::{Quota, QuotaFull};
+pub use quotas::{QUOTA_BLOCKS, QUOTA_UPLOADS, Quota, QuotaFull};

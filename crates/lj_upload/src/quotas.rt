@@ -1,14 +1,17 @@
 ghost use Rattle.std.specs.Prelude.{◌≡◌, ◌+◌, ◌≤◌, ◌↔◌, IfErr, IsOk};
 ghost use Rattle.lj_upload.specs.Quotas.{Admits, IsQuotaCause};
 
+use lj_base::MAX_BLOCKS;
 use std::marker::Model;
 use thiserror::Error;
 
-const MAX_UPLOADS: u64 = 256;
+/// The most uploads that are held.
+pub const QUOTA_UPLOADS: u64 = 256;
 
-const MAX_BLOCKS: u64 = 262_144;
+/// The most blocks that the uploads held have in all.
+pub const QUOTA_BLOCKS: u64 = 262_144;
 
-/// How many uploads and blocks are held: at most 256 uploads, with at most 262,144 blocks in all.
+/// How many uploads and blocks are held: at most `QUOTA_UPLOADS` uploads, with at most `QUOTA_BLOCKS` blocks in all.
 #[derive(Debug, Drop)]
 pub struct Quota {
     uploads: u64,
@@ -18,12 +21,13 @@ pub struct Quota {
 impl Model for Quota {
     ghost use Rattle.std.specs.Prelude.{◌≤◌};
     ghost use Rattle.lj_upload.specs.Quotas.{Held};
+    ghost use Rattle.lj_upload.specs.declared.quotas.TheConstants.{QUOTA_BLOCKS, QUOTA_UPLOADS};
 
     ghost Value = { Held };
 
     ghost view = { λ q. record { uploads = q.uploads; blocks = q.blocks } };
 
-    ghost invariant = { λ q. (q.uploads ≤ 256) × (q.blocks ≤ 262144) };
+    ghost invariant = { λ q. (q.uploads ≤ QUOTA_UPLOADS) × (q.blocks ≤ QUOTA_BLOCKS) };
 }
 
 /// Why an upload is not admitted.
@@ -48,17 +52,25 @@ impl Quota {
         }
     }
 
+    /// How many uploads are held.
+    pub fn uploads(&self) -> u64
+        ensures uploads { result ≡ self.now.uploads }
+        ensures few { result ≤ QUOTA_UPLOADS }
+    {
+        self.uploads
+    }
+
     /// Whether one more upload, of `n` blocks, may be held.
     pub fn admit(&self, n: u64) -> Result<(), QuotaFull>
-        requires { n ≤ 100000 }
+        requires { n ≤ MAX_BLOCKS }
         ensures ok { IsOk result ↔ Admits self.now n }
         ensures cause { IfErr result (IsQuotaCause self.now n) }
     {
-        if self.uploads >= MAX_UPLOADS {
+        if self.uploads >= QUOTA_UPLOADS {
             return Err(QuotaFull::Uploads { n: self.uploads });
         }
         let blocks = self.blocks + n;
-        if blocks > MAX_BLOCKS {
+        if blocks > QUOTA_BLOCKS {
             return Err(QuotaFull::Blocks { n: blocks });
         }
         Ok(())
@@ -94,6 +106,7 @@ mod tests {
                 quota.take(0);
             }
         }
+        assert_eq!(rt; quota.uploads(), 256);
         assert_eq!(rt; quota.admit(0), Err(QuotaFull::Uploads { n: 256 }));
     }
 }

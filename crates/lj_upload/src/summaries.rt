@@ -3,16 +3,17 @@ ghost use Rattle.lj_upload.specs.Uploads.{IsSummary};
 
 use crate::least::{least_pair, least_point};
 use crate::tables::{cut_table, pair_table};
-use lj_base::Memory;
+use lj_base::{MAX_BLOCKS, Memory};
 use lj_cover::Design;
 use std::alloc::Global;
 
-/// What the rules ask of an upload's blocks, made once.
+/// What the rules need of an upload's blocks, made once.
 #[derive(Debug, Drop)]
 pub(crate) struct Summary {
     /// The first point of least degree, and its degree.
     pub(crate) least: (u8, u64),
-    /// The first pair of points with the fewest blocks through both, and how many those are. None where there is one point.
+    /// The first pair of points with the fewest blocks through both, and how many those are. None where there is one
+    /// point.
     pub(crate) least_pair: Option<(u8, u8, u64)>,
     /// In row `w` at place `l`: how many blocks have `l` points below `w`.
     pub(crate) counts: Vec<[u32; 26]>,
@@ -20,7 +21,7 @@ pub(crate) struct Summary {
 
 impl Summary {
     pub(crate) fn of(alloc: Global, design: &Design) -> Result<Summary, Memory>
-        requires { length design.now.blocks ≤ 100000 }
+        requires { length design.now.blocks ≤ MAX_BLOCKS }
         ensures { IfOk result (λ summary. IsSummary design.now.cell.v design.now.blocks summary) }
     {
         let pairs = pair_table(alloc, design)?;

@@ -1,17 +1,18 @@
-ghost use Rattle.std.specs.Prelude.{◌≡◌, ℕ, ◌+◌, ◌<◌, ◌≤◌, ◌&&◌, if◌then◌else◌, [], IfOk, length, replicate, slice_index, slice_index_or, take};
+ghost use Rattle.std.specs.Prelude.{◌≡◌, ℕ, ◌+◌, ◌<◌, ◌≤◌, ◌&&◌, if◌then◌else◌, [], IfOk, length, replicate};
+ghost use Rattle.std.specs.Prelude.{slice_index, slice_index_or, take};
 ghost use Rattle.lj_base.specs.Blocks.{AllBelow};
 ghost use Rattle.lj_cover.specs.Operations.{cut, has_point};
 ghost use Rattle.lj_upload.specs.Tables.{CountsPairs, entry, one_more_at, times};
 ghost use Rattle.lj_upload.specs.Uploads.{cut_table};
 
-use lj_base::{Block, Memory};
+use lj_base::{Block, MAX_BLOCKS, Memory};
 use lj_cover::Design;
 use std::alloc::Global;
 
 /// For each two points how many blocks hold both, in the row of the lesser one; with itself a point has its degree.
 /// Cost: a step for each two points of a block.
 pub(crate) fn pair_table(alloc: Global, design: &Design) -> Result<Vec<[u32; 99]>, Memory>
-    requires { length design.now.blocks ≤ 100000 }
+    requires { length design.now.blocks ≤ MAX_BLOCKS }
     ensures { IfOk result (λ table. CountsPairs design.now.cell.v design.now.blocks table.items) }
 {
     let cell = design.cell();
@@ -25,9 +26,10 @@ pub(crate) fn pair_table(alloc: Global, design: &Design) -> Result<Vec<[u32; 99]
 // Counts the block at each two of its points.
 fn add_pairs(table: &mut [[u32; 99]], block: &Block)
     requires below { AllBelow (length table.old) block.now }
-    requires room { (p q : ℕ) → p ≤ q → entry table.old p q ≤ 100000 }
+    requires room { (p q : ℕ) → p ≤ q → entry table.old p q ≤ MAX_BLOCKS }
     ensures len { length table.new ≡ length table.old }
-    ensures entries { (p q : ℕ) → p ≤ q → entry table.new p q ≡ entry table.old p q + (if has_point block.now p && has_point block.now q then 1 else 0) }
+    ensures entries { (p q : ℕ) → p ≤ q → entry table.new p q ≡ entry table.old p q
+        + (if has_point block.now p && has_point block.now q then 1 else 0) }
 {
     for i in 0..block.len() {
         let row = &mut table[block.at(i) as usize];
@@ -39,17 +41,19 @@ fn add_pairs(table: &mut [[u32; 99]], block: &Block)
 fn add_points(row: &mut [u32], block: &Block, from: u64)
     requires len { length row.old ≡ 99 }
     requires within { from < length block.now }
-    requires room { (q : ℕ) → slice_index block.now from ≤ q → slice_index row.old q ≤ 100000 }
-    ensures { (q : ℕ) → slice_index row.new q + times (take from block.now) q ≡ slice_index row.old q + times block.now q }
+    requires room { (q : ℕ) → slice_index block.now from ≤ q → slice_index row.old q ≤ MAX_BLOCKS }
+    ensures { (q : ℕ) → slice_index row.new q + times (take from block.now) q
+        ≡ slice_index row.old q + times block.now q }
 {
     for j in from..block.len() {
         row[block.at(j) as usize] += 1;
     }
 }
 
-/// For each `w` from 0 to `v`, how many blocks have `l` points below `w`, for each `l`. Cost: a step for each block and `w`.
+/// For each `w` from 0 to `v`, how many blocks have `l` points below `w`, for each `l`. Cost: a step for each block and
+/// `w`.
 pub(crate) fn cut_table(alloc: Global, v: u8, blocks: &[Block]) -> Result<Vec<[u32; 26]>, Memory>
-    requires { length blocks.now ≤ 100000 }
+    requires { length blocks.now ≤ MAX_BLOCKS }
     ensures { IfOk result (λ table. table.items ≡ cut_table v blocks.now) }
 {
     let mut table = zero_rows(alloc, v as usize + 1)?;
@@ -61,9 +65,10 @@ pub(crate) fn cut_table(alloc: Global, v: u8, blocks: &[Block]) -> Result<Vec<[u
 
 // Counts the block in each row, at the number of its points below the row's.
 fn add_cuts(table: &mut [[u32; 26]], block: &Block)
-    requires { (w l : ℕ) → w < length table.old → entry table.old w l ≤ 100000 }
+    requires { (w l : ℕ) → w < length table.old → entry table.old w l ≤ MAX_BLOCKS }
     ensures len { length table.new ≡ length table.old }
-    ensures rows { (w : ℕ) → w < length table.old → slice_index_or table.new w [] ≡ one_more_at (slice_index_or table.old w []) (length (cut w block.now)) }
+    ensures rows { (w : ℕ) → w < length table.old → slice_index_or table.new w []
+        ≡ one_more_at (slice_index_or table.old w []) (length (cut w block.now)) }
 {
     let mut below = 0;
     for w in 0..table.len() {
@@ -74,7 +79,8 @@ fn add_cuts(table: &mut [[u32; 26]], block: &Block)
 
 // From the number of the block's points below `w` that of its points below `w + 1`.
 fn next_below(block: &Block, w: u64, below: u64) -> u64
-    requires { below ≡ length (cut w block.now) }
+    requires count { below ≡ length (cut w block.now) }
+    requires short { below ≤ 25 }
     ensures count { result ≡ length (cut (w + 1) block.now) }
     ensures short { result ≤ 25 }
 {

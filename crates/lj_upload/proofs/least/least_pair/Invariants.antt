@@ -1,4 +1,5 @@
-use Rattle.lj_upload.specs.Tables.{IsFirstLeastPair, entry}
+use Rattle.lj_upload.specs.Degrees.{IsFirstLeastPair}
+use Rattle.lj_upload.specs.Tables.{entry}
 use Rattle.lj_upload.proofs.least.least_pair.Given as goal
 
 abbrev pub invariant-loop-x : goal.invariant-loop-x

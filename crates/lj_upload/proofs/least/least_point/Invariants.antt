@@ -1,4 +1,5 @@
-use Rattle.lj_upload.specs.Tables.{IsFirstLeast, entry}
+use Rattle.lj_upload.specs.Degrees.{IsFirstLeast}
+use Rattle.lj_upload.specs.Tables.{entry}
 use Rattle.lj_upload.proofs.least.least_point.Given as goal
 
 abbrev pub invariant-loop-x : goal.invariant-loop-x

@@ -7,6 +7,7 @@ abbrev pub invariant-loop-w : goal.invariant-loop-w
 invariant-loop-w l = record {
   count : l.below ≡ length (cut l.w l.block);
   short : l.below ≤ 25;
-  done : (k : ℕ) → k < l.w → slice_index_or l.table k [] ≡ one_more_at (slice_index_or l.initial.table k []) (length (cut k l.block));
+  done : (k : ℕ) → k < l.w → slice_index_or l.table k [] ≡ one_more_at (slice_index_or l.initial.table k [])
+      (length (cut k l.block));
   left : (k : ℕ) → l.w ≤ k → slice_index_or l.table k [] ≡ slice_index_or l.initial.table k [];
 }

@@ -1,6 +1,6 @@
 use Rattle.std.proofs.Common.{◌≡◌, ◌+◌, ◌*◌, ◌<◌, length, take, ap, ◌∙◌, arith}
 use Rattle.std.proofs.lemmas.List.{take_all}
-use Rattle.lj_cover.proofs.Appending.{AllByRecursion-at}
+use Rattle.lj_base.proofs.Lists.{AllByRecursion-at}
 use Rattle.lj_upload.specs.Tables.{entry, times}
 use Rattle.lj_upload.proofs.Counts.{pairs_more, times-both, times_before}
 use Rattle.lj_upload.proofs.tables.add_pairs.Goals as goal
@@ -18,8 +18,10 @@ pub loop-i-preserved : goal.loop-i-preserved
 loop-i-preserved c =
     let b = c.args.block.now in
     let inside : c.loop-i.i < length b = omega arith in
-    let row_in : c.at.result < length c.loop-i.table = omega (arith, AllByRecursion-at (λ x. x < length c.args.table.now) b c.loop-i.i inside c.requires.below) in
-    λ p q order. pairs_more c.loop-i.table c.add_points.new.row b 99 c.loop-i.i c.at.result p q _ c.len-i-end.ensures.ascends inside c.at.ensures row_in order
+    let row_in : c.at.result < length c.loop-i.table = omega
+    (arith, AllByRecursion-at (λ x. x < length c.args.table.now) 0 b c.loop-i.i inside c.requires.below) in
+    λ p q order. pairs_more c.loop-i.table c.add_points.new.row b 99 c.loop-i.i c.at.result p q _
+    c.len-i-end.ensures.ascends inside c.at.ensures row_in order
     c.add_points.ensures (c.loop-i.invariant p q order)
 
 pub returns-clause-entries : goal.returns-clause-entries

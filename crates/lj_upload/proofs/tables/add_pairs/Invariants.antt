@@ -3,4 +3,5 @@ use Rattle.lj_upload.specs.Tables.{entry, times}
 use Rattle.lj_upload.proofs.tables.add_pairs.Given as goal
 
 abbrev pub invariant-loop-i : goal.invariant-loop-i
-invariant-loop-i l = (p q : ℕ) → p ≤ q → entry l.table p q ≡ entry l.initial.table p q + times (take l.i l.block) p * times l.block q
+invariant-loop-i l = (p q : ℕ) → p ≤ q → entry l.table p q ≡ entry l.initial.table p q + times
+    (take l.i l.block) p * times l.block q

@@ -28,13 +28,16 @@ pub loop-block-preserved : goal.loop-block-preserved
 loop-block-preserved c =
     let same = c.deref_mut.ensures.value in
     let new = c.add_cuts.new.table in
-    let back = written c.loop-block.table.len new c.loop-block.table.items (omega (arith, ap length same, c.loop-block.table.ok.0)) in
+    let back = written c.loop-block.table.len new c.loop-block.table.items
+    (omega (arith, ap length same, c.loop-block.table.ok.0)) in
     rw back (record {
       len = omega (arith, ap length same);
       rows = λ w below.
           c.add_cuts.ensures.rows w (omega (arith, ap length same))
-          ∙ ap (λ r. one_more_at r (length (cut w c.block-item.result))) (ap (λ t. get_or t w []) same ∙ c.loop-block.invariant.rows w below)
-          ∙ counts_more w c.loop-block.block-index c.args.blocks.now c.block-item.result c.loop-block-test.true c.block-item.is;
+          ∙ ap (λ r. one_more_at r (length (cut w c.block-item.result)))
+          (ap (λ t. get_or t w []) same ∙ c.loop-block.invariant.rows w below)
+          ∙ counts_more w c.loop-block.block-index c.args.blocks.now c.block-item.result c.loop-block-test.true
+          c.block-item.is;
     })
 
 pub returns : goal.returns

@@ -20,5 +20,6 @@ returns c =
     let row = c.index.result.now in
     c.index.ensures
     ∙ ap (λ t. get_or t w row) c.self.invariant.2.counts
-    ∙ get_or-map-range_with_len (λ w. cut_counts w a.design.blocks) 0 (a.design.cell.v + 1) w w row (omega arith) (omega arith)
+    ∙ get_or-map-range_with_len (λ w. cut_counts w a.design.blocks) 0 (a.design.cell.v + 1) w w row (omega arith)
+    (omega arith)
     ∙ ap (λ (u : Upload). cut_counts w u.blocks) c.self.view_is

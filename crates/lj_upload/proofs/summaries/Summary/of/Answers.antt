@@ -11,5 +11,6 @@ returns c =
     record {
       least = least_degree _ _ _ _ _ _ c.deref.ensures.value pairs c.least_point.ensures;
       least_pair = least_pair _ _ _ _ _ c.deref-2.ensures.value pairs c.least_pair.ensures;
-      counts = c.in_ok-counts.ensures ∙ ap (λ bs. cut_table c.cut_table.inside.v bs) c.blocks-2.ensures.blocks ∙ ap (λ v. cut_table v c.args.design.now.blocks) same;
+      counts = c.in_ok-counts.ensures ∙ ap (λ bs. cut_table c.cut_table.inside.v bs) c.blocks-2.ensures.blocks ∙ ap
+          (λ v. cut_table v c.args.design.now.blocks) same;
     }

@@ -1,0 +1,225 @@
+ghost use Rattle.std.specs.Prelude.{◌≡◌, ℕ, ◌+◌, ◌<◌, ◌≤◌, ◌⊎◌, ◌↔◌, true, false, [], ◌∷◌, length};
+ghost use Rattle.std.specs.Prelude.{IfOk, OnOk, slice_index, slice_index_or};
+ghost use Rattle.std.specs.List.{AllByRecursion, Contains};
+ghost use Rattle.lj_base.specs.Blocks.{Ascends};
+ghost use Rattle.lj_deriv.specs.Nodes.{steps_of};
+ghost use Rattle.lj_deriv.specs.Plans.{IsPlanOf, IsWhole};
+ghost use Rattle.lj_deriv.specs.Trees.{uploads_of};
+ghost use Rattle.lj_deriv.specs.Copies.{AreNamedBy, HasUploads, IsCopying, IsMarked, IsMarkedFrom, IsNamedAmong};
+ghost use Rattle.lj_deriv.specs.Copies.{IsNextCopy, IsReach, node_children, node_uploads};
+
+use crate::arena::Arena;
+use crate::limits::MAX_NODES;
+use crate::renumbering::renumbered;
+use crate::rules::Rule;
+use lj_base::Memory;
+use std::alloc::Global;
+
+// A copy in the making: what is copied, and the new number of each node and of each upload.
+#[derive(Drop)]
+struct Copying {
+    plan: Arena,
+    nodes: Vec<u64>,
+    uploads: Vec<u32>,
+}
+
+/// Copies the nodes that the root reaches, in order, and the uploads that they name, in order. It takes time and memory
+/// for each node up to the root and for each upload.
+pub fn copy_reached(arena: &Arena, alloc: Global, root: u64) -> Result<Arena, Memory>
+    requires there { root < length arena.now.rules }
+    requires few { length arena.now.rules ≤ MAX_NODES }
+    ensures plan { IfOk result (λ p. IsPlanOf arena.now root (steps_of p)) }
+    ensures whole { IfOk result (λ p. IsWhole (steps_of p)) }
+{
+    let numbers = reached(arena, alloc, root)?;
+    let named = uploads_named(arena, alloc, &numbers, root)?;
+    let mut copying = copied_uploads(arena, alloc, &named)?;
+    copying.nodes = vec![in alloc; 0; root as usize + 1]?;
+    copying.plan.reserve(numbers.len() as u64)?;
+    for _node in 0..numbers.len() {
+        copying.push_next(arena, &numbers, &named, root);
+    }
+    let copied = copying.plan.len();
+    prove_eq!(copied, numbers.len() as u64);
+    let Copying { plan, .. } = copying;
+    Ok(plan)
+}
+
+// Copies these uploads, in order.
+fn copied_uploads(arena: &Arena, alloc: Global, named: &[u64]) -> Result<Copying, Memory>
+    requires { Ascends 0 (length arena.now.uploads) named.now }
+    ensures uploads { IfOk result (λ c. HasUploads arena.now named.now c.uploads.items c.plan) }
+    ensures all { IfOk result (λ c. length c.plan.uploads ≡ length named.now) }
+    ensures no_nodes { IfOk result (λ c. c.plan.rules ≡ []) }
+{
+    let mut copying = Copying {
+        plan: Arena::new(alloc, arena.frame()),
+        nodes: Vec::new(alloc),
+        uploads: vec![in alloc; 0; arena.uploads().len()]?,
+    };
+    for u in named {
+        copying.push_upload(arena, alloc, *u, named)?;
+    }
+    Ok(copying)
+}
+
+impl Copying {
+    // Copies the first of these uploads that is not copied, and keeps its place.
+    fn push_upload(
+        &mut self,
+        arena: &Arena,
+        alloc: Global,
+        u: u64,
+        named: &[u64],
+    ) -> Result<(), Memory>
+        requires ascends { Ascends 0 (length arena.now.uploads) named.now }
+        requires more { length self.old.plan.uploads < length named.now }
+        requires there { u < length arena.now.uploads }
+        requires next { u ≡ slice_index named.now (length self.old.plan.uploads) }
+        requires uploads { HasUploads arena.now named.now self.old.uploads.items self.old.plan }
+        ensures uploads { OnOk result (HasUploads arena.now named.now self.new.uploads.items self.new.plan) }
+        ensures len { OnOk result (length self.new.plan.uploads ≡ length self.old.plan.uploads + 1) }
+        ensures rules { OnOk result (self.new.plan.rules ≡ self.old.plan.rules) }
+    {
+        let held = arena.uploads();
+        let copy = held[u as usize].copy(alloc)?;
+        self.uploads[u as usize] = self.plan.push_upload(copy)?;
+        Ok(())
+    }
+
+    // Copies the first of these nodes that is not copied, and keeps its place.
+    fn push_next(&mut self, arena: &Arena, numbers: &[u64], named: &[u64], root: u64)
+        requires there { root < length arena.now.rules }
+        requires more { length self.old.plan.rules < length numbers.now }
+        requires copying { IsCopying arena.now root numbers.now named.now self.old.plan
+            self.old.nodes.items self.old.uploads.items }
+        ensures copying { IsCopying arena.now root numbers.now named.now self.new.plan
+            self.new.nodes.items self.new.uploads.items }
+        ensures len { length self.new.plan.rules ≡ length self.old.plan.rules + 1 }
+    {
+        let node = numbers[self.plan.len() as usize];
+        let copy = self.next_copy(arena, node, numbers, named, root);
+        self.nodes[node as usize] = self.plan.add(copy);
+    }
+
+    // The node under its new numbers.
+    fn next_copy(&self, arena: &Arena, node: u64, numbers: &[u64], named: &[u64], root: u64) -> Rule
+        requires there { node < length arena.now.rules }
+        requires more { length self.now.plan.rules < length numbers.now }
+        requires next { node ≡ slice_index numbers.now (length self.now.plan.rules) }
+        requires copying { IsCopying arena.now root numbers.now named.now self.now.plan
+            self.now.nodes.items self.now.uploads.items }
+        ensures { IsNextCopy arena.now self.now.plan numbers.now named.now self.now.nodes.items node result }
+    {
+        let rule = arena.rule(node);
+        let upload = self.place_of_upload(rule);
+        renumbered(rule, &self.nodes, upload)
+    }
+
+    // The place of the copy of the upload that the rule names, and 0 where it names none.
+    fn place_of_upload(&self, rule: &Rule) -> u32
+        requires { AllByRecursion (λ u. u < length self.now.uploads.items) (uploads_of rule.now) }
+        ensures { AllByRecursion (λ u. result ≡ slice_index self.now.uploads.items u) (uploads_of rule.now) }
+    {
+        match rule.upload() {
+            Some(u) => self.uploads[u as usize],
+            None => 0,
+        }
+    }
+}
+
+// The nodes that the root reaches, in order.
+fn reached(arena: &Arena, alloc: Global, root: u64) -> Result<Vec<u64>, Memory>
+    requires there { root < length arena.now.rules }
+    requires few { length arena.now.rules ≤ MAX_NODES }
+    ensures { IfOk result (λ v. IsReach arena.now root v.items) }
+{
+    let marks = marked(arena, alloc, root)?;
+    numbers_of(alloc, &marks)
+}
+
+// Marks what the root reaches, from the root downwards.
+fn marked(arena: &Arena, alloc: Global, root: u64) -> Result<Vec<bool>, Memory>
+    requires there { root < length arena.now.rules }
+    requires few { length arena.now.rules ≤ MAX_NODES }
+    ensures { IfOk result (λ v. IsMarkedFrom arena.now root 0 v.items) }
+{
+    let mut marks = vec![in alloc; false; root as usize + 1]?;
+    marks[root as usize] = true;
+    let mut node = root + 1;
+    while node > 0 {
+        node -= 1;
+        if marks[node as usize] {
+            mark_children(arena, node, &mut marks);
+        }
+    }
+    Ok(marks)
+}
+
+fn mark_children(arena: &Arena, node: u64, marks: &mut Vec<bool>)
+    requires there { node < length arena.now.rules }
+    requires within { node < length marks.old.items }
+    ensures len { length marks.new.items ≡ length marks.old.items }
+    ensures earlier { AllByRecursion (λ i. i < node) (node_children arena.now node) }
+    ensures marks { (i : ℕ) → IsMarked marks.new.items i
+        ↔ (IsMarked marks.old.items i ⊎ Contains (node_children arena.now node) i) }
+{
+    let children = arena.rule(node).children(arena.uploads());
+    for child in children.as_slice() {
+        marks[*child as usize] = true;
+    }
+}
+
+// The uploads that these nodes name, in order.
+fn uploads_named(
+    arena: &Arena,
+    alloc: Global,
+    numbers: &[u64],
+    root: u64,
+) -> Result<Vec<u64>, Memory>
+    requires reach { IsReach arena.now root numbers.now }
+    requires there { root < length arena.now.rules }
+    ensures { IfOk result (λ v. AreNamedBy arena.now numbers.now v.items) }
+{
+    let marks = marked_uploads(arena, alloc, numbers)?;
+    numbers_of(alloc, &marks)
+}
+
+// Marks the uploads that these nodes name.
+fn marked_uploads(arena: &Arena, alloc: Global, numbers: &[u64]) -> Result<Vec<bool>, Memory>
+    requires { AllByRecursion (λ i. i < length arena.now.rules) numbers.now }
+    ensures len { IfOk result (λ v. length v.items ≡ length arena.now.uploads) }
+    ensures marks { IfOk result (λ v. (u : ℕ) → IsMarked v.items u ↔ IsNamedAmong arena.now numbers.now u) }
+{
+    let mut marks = vec![in alloc; false; arena.uploads().len()]?;
+    for node in numbers {
+        mark_upload(arena, *node, &mut marks);
+    }
+    Ok(marks)
+}
+
+fn mark_upload(arena: &Arena, node: u64, marks: &mut Vec<bool>)
+    requires there { node < length arena.now.rules }
+    requires within { length marks.old.items ≡ length arena.now.uploads }
+    ensures len { length marks.new.items ≡ length marks.old.items }
+    ensures marks { (u : ℕ) → IsMarked marks.new.items u
+        ↔ (IsMarked marks.old.items u ⊎ Contains (node_uploads arena.now node) u) }
+{
+    if let Some(u) = arena.rule(node).upload() {
+        marks[u as usize] = true;
+    }
+}
+
+// The places that are marked, in order.
+fn numbers_of(alloc: Global, marks: &[bool]) -> Result<Vec<u64>, Memory>
+    ensures ascends { IfOk result (λ v. Ascends 0 (length marks.now) v.items) }
+    ensures has { IfOk result (λ v. (i : ℕ) → Contains v.items i ↔ IsMarked marks.now i) }
+{
+    let mut numbers = Vec::new(alloc);
+    for (i, mark) in marks.iter().enumerate() {
+        if *mark {
+            numbers.push(i as u64)?;
+        }
+    }
+    Ok(numbers)
+}
