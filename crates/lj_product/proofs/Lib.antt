@@ -1,0 +1,5 @@
+pub mod Places
+pub mod Searching
+pub mod Tails
+pub mod Chains
+pub mod Choosing

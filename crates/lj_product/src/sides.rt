@@ -1,0 +1,52 @@
+ghost use Rattle.std.specs.Prelude.{◌≡◌, ℕ, ◌-◌, ◌<◌, ◌≤◌, slice_index};
+ghost use Rattle.lj_base.specs.Cells.{IsCell};
+ghost use Rattle.lj_base.specs.Frames.{InFrame};
+ghost use Rattle.lj_cover.specs.Rules.{triple};
+ghost use Rattle.lj_product.specs.Sides.{AreOffsets, AreSides, cell_of};
+
+use lj_base::Frame;
+
+/// A cell whose points are split in two: its three numbers, how many points the first side has, and the index of the
+/// first cell of the frame with as many points as each side.
+#[derive(Clone, Copy)]
+pub struct Sides {
+    pub v: usize,
+    pub k: usize,
+    pub t: usize,
+    pub v1: usize,
+    pub first: usize,
+    pub second: usize,
+}
+
+impl Sides {
+    pub fn of(frame: Frame, v: usize, k: usize, t: usize, v1: usize) -> Sides
+        requires inside { InFrame frame (triple v k t) }
+        requires first_side { 1 ≤ v1 }
+        requires second_side { v1 < v }
+        ensures sides { AreSides frame result }
+        ensures cell { cell_of result ≡ triple v k t }
+        ensures v1 { result.v1 ≡ v1 }
+    {
+        Sides {
+            v,
+            k,
+            t,
+            v1,
+            first: frame.cells_before_v(v1 as u8) as usize,
+            second: frame.cells_before_v((v - v1) as u8) as usize,
+        }
+    }
+}
+
+/// For each k of the frame the number of cells with one v whose k is lower. With the index of the first cell with a v
+/// and with t it makes a cell's index.
+pub fn row_offsets(frame: Frame) -> [usize; 26]
+    requires { IsCell frame.top }
+    ensures { AreOffsets frame result }
+{
+    let mut offsets = [0; 26];
+    for k in 0..frame.top.k as usize + 1 {
+        offsets[k] = frame.cells_before_k(k as u8) as usize;
+    }
+    offsets
+}

@@ -1,0 +1,4 @@
+pub mod Found
+pub mod States
+pub mod Steps
+pub mod Tickets

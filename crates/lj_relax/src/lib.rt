@@ -1,0 +1,14 @@
+//! Relaxation: the steps of a table of bounds and what they keep, the ticket that a worker takes along, the least price
+//! of an instance over it, and which cells read which.
+#![tactic(auto)]
+
+mod found;
+pub mod laws;
+mod prices;
+mod proposals;
+mod tickets;
+
+pub use found::Found;
+pub use prices::{least_instance, least_price};
+pub use proposals::{Proposal, evaluate};
+pub use tickets::Ticket;
