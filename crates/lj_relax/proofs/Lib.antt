@@ -1,7 +1,11 @@
 pub mod Accepting
 pub mod Ageing
 pub mod AllSets
+pub mod CellOrder
+pub mod FrameReaders
+pub mod Listing
 pub mod Merging
 pub mod Publishing
+pub mod ReaderTests
 pub mod Resting
 pub mod Same

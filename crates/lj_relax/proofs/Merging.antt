@@ -8,14 +8,31 @@ use Rattle.lj_base.specs.Frames.{Top}
 use Rattle.lj_base.specs.declared.Row.{Row}
 use Rattle.lj_cover.specs.Instances.{IsInstance, price, row_price}
 use Rattle.lj_cover.specs.Rules.{
-  Rule, Part, Upload, One, Runs, All as AllRule, Leaf, Derived, Derived2, Drop, Add, Grow, Lower, Product, Induced
+  Rule,
+  Part,
+  Upload,
+  One,
+  Runs,
+  All as AllRule,
+  Leaf,
+  Derived,
+  Derived2,
+  Drop,
+  Add,
+  Grow,
+  Lower,
+  Product,
+  Induced,
 }
 use Rattle.lj_product.specs.Products.{product_of}
 use Rattle.lj_relax.specs.Found.{IsFound, IsLeastFound, found_cost}
 use Rattle.lj_relax.specs.Steps.{IsAtMost, IsPrice, Snapshot}
 use Rattle.lj_relax.specs.declared.found.Found.{Found}
 use Rattle.lj_relax.specs.declared.found.Found.TheVariants.{
-  Elementary as ElementaryFound, Product as ProductFound, Induced as InducedFound, Nothing
+  Elementary as ElementaryFound,
+  Product as ProductFound,
+  Induced as InducedFound,
+  Nothing,
 }
 use Rattle.lj_rules.specs.Elementary.{IsElementary, rule_of_kind}
 
@@ -40,7 +57,7 @@ by_kind frame c P elementary product (Grow d) i = elementary (Grow d) tt i
 by_kind frame c P elementary product (Lower d) i = elementary (Lower d) tt i
 by_kind frame c P elementary product (Product d v1 parts) i =
     subst (λ e. P (Product e v1 parts)) (sym i.cell_is)
-      (product v1 parts (subst (λ e. IsInstance frame [] c (Product e v1 parts)) i.cell_is i))
+    (product v1 parts (subst (λ e. IsInstance frame [] c (Product e v1 parts)) i.cell_is i))
 by_kind frame c P elementary product (Induced u w k) i = absurd (none_from u i.upload_from)
   where
     none_from : (u : Upload) → Contains [] u → ⊥
@@ -56,7 +73,7 @@ by_kind frame c P elementary product (Derived2 u x y) i = absurd i.step
 pub least_found : (frame : Top) (a : Snapshot) (found : Found) → IsFound frame a found
     → ((r : Rule) → IsElementary r → IsInstance frame [] a.cell r → IsAtMost (found_cost found) (price a.bounds r))
     → ((v1 : ℕ) (parts : List Part) → IsInstance frame [] a.cell (Product a.cell v1 parts)
-      → IsAtMost (found_cost found) (price a.bounds (Product a.cell v1 parts)))
+    → IsAtMost (found_cost found) (price a.bounds (Product a.cell v1 parts)))
     → All (λ (row : Row). IsAtMost (found_cost found) (row_price a.bounds a.cell row.counts)) a.rows
     → IsLeastFound frame a found
 least_found frame a found is elementary product rows = record {
@@ -65,10 +82,10 @@ least_found frame a found is elementary product rows = record {
     is_price = found_price frame a found is;
     least = λ n one. ⊎_elim
         (λ i. subst (IsAtMost (found_cost found)) i.2
-          (by_kind frame a.cell (λ r. IsAtMost (found_cost found) (price a.bounds r)) elementary product i.0 i.1))
+        (by_kind frame a.cell (λ r. IsAtMost (found_cost found) (price a.bounds r)) elementary product i.0 i.1))
         (λ i. subst (IsAtMost (found_cost found)) i.2
-          (All-contains (λ (row : Row). IsAtMost (found_cost found) (row_price a.bounds a.cell row.counts)) a.rows i.0
-              rows i.1))
+        (All-contains (λ (row : Row). IsAtMost (found_cost found) (row_price a.bounds a.cell row.counts)) a.rows i.0
+        rows i.1))
         one;
   };
 }

@@ -1,5 +1,5 @@
 -- An instance of least price that was found at a cell.
-use Rattle.std.specs.Prelude.{ℕ, List, Option, Some, None}
+use Rattle.std.specs.Prelude.{ℕ, Option, Some, None}
 use Rattle.lj_base.specs.Frames.{Top}
 use Rattle.lj_induced.specs.Rows.{IsInducedChoice}
 use Rattle.lj_product.specs.Products.{IsProductChoice}

@@ -2,13 +2,17 @@
 //! of an instance over it, and which cells read which.
 #![tactic(auto)]
 
+mod dependents;
 mod found;
 pub mod laws;
 mod prices;
 mod proposals;
+mod reading;
 mod tickets;
 
+pub use dependents::Dependents;
 pub use found::Found;
 pub use prices::{least_instance, least_price};
 pub use proposals::{Proposal, evaluate};
+pub use reading::reads;
 pub use tickets::Ticket;

@@ -89,13 +89,7 @@ fn cheaper(first: Found, second: Found) -> Found
     ensures second { (n : ℕ) → IsAtMost (found_cost second) n → IsAtMost (found_cost result) n }
 {
     match (first.cost(), second.cost()) {
-        (Some(f), Some(s)) => {
-            if s < f {
-                second
-            } else {
-                first
-            }
-        }
+        (Some(f), Some(s)) => { if s < f { second } else { first } }
         (Some(_), None) => first,
         (None, _) => second,
     }

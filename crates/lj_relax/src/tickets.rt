@@ -29,11 +29,21 @@ impl Model for Ticket {
     ghost Value = { TicketLists };
 
     ghost view = { λ t. record {
-        frame = t.frame; cell = t.cell; bounds = t.bounds.items; nodes = t.nodes.items; rows = t.rows.items; room = t.room
+      frame = t.frame;
+      cell = t.cell;
+      bounds = t.bounds.items;
+      nodes = t.nodes.items;
+      rows = t.rows.items;
+      room = t.room;
     } };
 
     ghost invariant = { λ t. IsTicket (record {
-        frame = t.frame; cell = t.cell; bounds = t.bounds.items; nodes = t.nodes.items; rows = t.rows.items; room = t.room
+      frame = t.frame;
+      cell = t.cell;
+      bounds = t.bounds.items;
+      nodes = t.nodes.items;
+      rows = t.rows.items;
+      room = t.room;
     }) × (t.room ≤ vec_capacity t.rows) };
 }
 
@@ -154,8 +164,8 @@ impl Ticket {
     }
 }
 
-// The first cell of the frame.
-fn first_cell(frame: Frame) -> Cell
+/// The first cell of the frame.
+pub fn first_cell(frame: Frame) -> Cell
     ensures cell { result ≡ record { v = 1; k = 0; t = 0 } }
     ensures inside { InFrame frame result }
     ensures limits { IsCell frame.top }
