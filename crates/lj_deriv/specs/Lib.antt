@@ -1,5 +1,4 @@
 pub mod Copies
-pub mod Fields
 pub mod Nodes
 pub mod Plans
 pub mod Stored

@@ -1,7 +1,8 @@
 -- What a node names, and the derivation that it has. The children of a node are numbers of earlier nodes, and an
 -- upload is a
 -- number too.
-use Rattle.std.specs.Prelude.{ℕ, ◌+◌, ◌-◌, List, [], ◌∷◌, ◌++◌, map, take, slice_index}
+use Rattle.std.specs.Prelude.{ℕ, ◌+◌, ◌-◌, List, [], ◌∷◌, ◌++◌, length, map, replicate, take, slice_index}
+use Rattle.lj_base.specs.Cells.{Triple}
 use Rattle.std.specs.List.{flat_map}
 use Rattle.std.proofs.Math.ListN.{get_or}
 use Rattle.lj_cover.specs.BlockLists.{cut_sizes}
@@ -37,6 +38,12 @@ trees_at trees (i ∷ is) = more (tree_at trees i) (trees_at trees is)
 -- the parts of a product that stand in its array
 abbrev pub parts_of : List StoredPart → ℕ → List Part
 parts_of parts count = map (λ p. record { a = p.a; b = p.b; l = p.l }) (take count parts)
+
+-- the rule of a product over these parts, at most nine: the array is filled up with parts that have no meaning
+abbrev pub product_rule : Triple → ℕ → List StoredPart → Rule
+product_rule c v1 parts =
+    let no_part : StoredPart = record { a = 0; b = 0; l = 0; first = 0; second = 0 } in
+    ProductNode c v1 (parts ++ replicate (9 - length parts) no_part) (length parts)
 
 -- the sizes of cuts for which an induced rule has a child
 abbrev pub sizes_of : Upload → ℕ → ℕ → List ℕ

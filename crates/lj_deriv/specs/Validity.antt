@@ -2,7 +2,7 @@
 use Rattle.std.specs.Prelude.{◌≡◌, ℕ, ◌<◌, ◌≤◌, List, length, take}
 use Rattle.std.specs.List.{AllByRecursion}
 use Rattle.lj_base.specs.declared.limits.TheConstants.{COST_LIMIT}
-use Rattle.lj_cover.specs.Derivations.{IsSound, Tree, root_cells, tree_cost}
+use Rattle.lj_cover.specs.Derivations.{IsSound, root_cells, tree_cost}
 use Rattle.lj_cover.specs.Rules.{Upload, rule_children}
 use Rattle.lj_deriv.specs.declared.rules.Rule.{Rule}
 use Rattle.lj_deriv.specs.declared.rules.Rule.TheVariants.{Product, Induced}

@@ -10,15 +10,13 @@ ghost use Rattle.lj_deriv.specs.Plans.{IsPlanOf};
 ghost use Rattle.lj_deriv.specs.Trees.{children_of, sizes_of, trees_at, trees_of, upload_at};
 ghost use Rattle.lj_deriv.specs.Validity.{AreValid, IsNode, IsValid};
 
-use crate::cells::{added, dropped, grown, lessened, lowered};
 use crate::copying::copy_reached;
-use crate::costs::{pair_degree, runs_cost};
 use crate::limits::{MAX_ARENA_UPLOADS, MAX_NODES};
 use crate::plans::Plan;
 use crate::rules::{Part, Rule};
 use lj_base::{COST_LIMIT, Cell, Frame, Memory, binom};
-use lj_cover::degree;
-use lj_cover::laws::{expansion_covers, price_by_row};
+use lj_cover::laws::{costs_are_positive, price_by_row, sizes_of_cuts};
+use lj_cover::{degree, pair_degree, runs_count};
 use lj_upload::Accepted;
 use std::alloc::Global;
 use std::marker::Model;
@@ -72,6 +70,7 @@ impl Arena {
         }
     }
 
+    /// The frame in which all its cells lie.
     pub fn frame(&self) -> Frame
         ensures { result ≡ self.now.frame }
     {
@@ -102,7 +101,7 @@ impl Arena {
         ensures { (i : ℕ) → i < length self.now.rules
             → IsDerivedIn self.now.frame self.now.uploads (node_tree self.now i) }
     {
-        expansion_covers();
+        costs_are_positive();
         let _ = &self.nodes;
     }
 
@@ -223,12 +222,12 @@ impl Arena {
             Rule::Runs { cell } => cell,
             Rule::All { cell } => cell,
             Rule::Leaf { upload } => self.upload(upload).design().cell(),
-            Rule::Derived { upload, .. } => lessened(self.upload(upload).design().cell(), 1),
-            Rule::Derived2 { upload, .. } => lessened(self.upload(upload).design().cell(), 2),
-            Rule::Drop { child } => dropped(self.cell(child)),
-            Rule::Add { child } => added(self.cell(child)),
-            Rule::Grow { child } => grown(self.cell(child)),
-            Rule::Lower { child } => lowered(self.cell(child)),
+            Rule::Derived { upload, .. } => self.upload(upload).design().cell().derived(1),
+            Rule::Derived2 { upload, .. } => self.upload(upload).design().cell().derived(2),
+            Rule::Drop { child } => self.cell(child).dropped(),
+            Rule::Add { child } => self.cell(child).added(),
+            Rule::Grow { child } => self.cell(child).grown(),
+            Rule::Lower { child } => self.cell(child).lowered(),
             Rule::Product { cell, .. } => cell,
             Rule::Induced { cell, .. } => cell,
         }
@@ -242,7 +241,7 @@ impl Arena {
         price_by_row();
         match rule {
             Rule::One { .. } => 1,
-            Rule::Runs { cell } => runs_cost(*cell),
+            Rule::Runs { cell } => runs_count(*cell),
             Rule::All { cell } => binom(u64::from(cell.v), u64::from(cell.k)),
             Rule::Leaf { upload } => self.upload(*upload).design().blocks().len() as u64,
             Rule::Derived { upload, point } => degree(self.upload(*upload).design(), *point),
@@ -250,7 +249,7 @@ impl Arena {
                 upload,
                 first,
                 second,
-            } => pair_degree(self.upload(*upload).design().blocks(), *first, *second),
+            } => pair_degree(self.upload(*upload).design(), *first, *second),
             Rule::Drop { child } => self.cost(*child),
             Rule::Add { child } => self.cost(*child),
             Rule::Grow { child } => self.cost(*child),
@@ -291,6 +290,7 @@ impl Arena {
         ensures { result ≡ row_price (λ c. tree_cost (node_tree self.now (slice_index children.now c.v))) cell
             (cut_counts cell.v up.now.blocks) }
     {
+        sizes_of_cuts();
         let counts = up.counts(u64::from(cell.v));
         let mut cost = 0;
         for l in 0..26u64 {

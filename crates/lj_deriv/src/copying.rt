@@ -13,6 +13,7 @@ use crate::limits::MAX_NODES;
 use crate::renumbering::renumbered;
 use crate::rules::Rule;
 use lj_base::Memory;
+use lj_cover::laws::sizes_of_cuts;
 use std::alloc::Global;
 
 // A copy in the making: what is copied, and the new number of each node and of each upload.
@@ -111,6 +112,7 @@ impl Copying {
             self.now.nodes.items self.now.uploads.items }
         ensures { IsNextCopy arena.now self.now.plan numbers.now named.now self.now.nodes.items node result }
     {
+        sizes_of_cuts();
         let rule = arena.rule(node);
         let upload = self.place_of_upload(rule);
         renumbered(rule, &self.nodes, upload)

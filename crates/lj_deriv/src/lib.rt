@@ -2,10 +2,8 @@
 #![tactic(auto)]
 
 mod arena;
-mod cells;
 mod children;
 mod copying;
-mod costs;
 mod limits;
 mod numbers;
 mod plans;

@@ -4,7 +4,8 @@ use Rattle.std.proofs.Common.{◌∙◌, arith}
 use Rattle.std.specs.List.{count_by}
 use Rattle.std.specs.Option.{MatchOption}
 use Rattle.lj_cover.specs.Operations.{has_point}
-use Rattle.lj_upload.specs.Degrees.{degree_at, pair_degree_at, IsFirstLeast, IsFirstLeastPair, IsLeastDegree}
+use Rattle.lj_cover.specs.Operations.{degree_at, pair_degree_at}
+use Rattle.lj_upload.specs.Degrees.{IsFirstLeast, IsFirstLeastPair, IsLeastDegree}
 use Rattle.lj_upload.specs.Degrees.{IsLeastPair}
 use Rattle.lj_upload.specs.Tables.{entry, CountsPairs}
 

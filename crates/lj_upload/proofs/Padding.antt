@@ -7,21 +7,29 @@ use Rattle.std.proofs.lemmas.List.{drop-replicate, length-drop}
 use Rattle.std.proofs.lemmas.Slice.Eq.{bytes_eq-Decides}
 use Rattle.std.specs.Bool.{Decides}
 use Rattle.std.specs.Cmp.Lexicographic.{pointwise}
-use Rattle.lj_upload.specs.Names.{IsName, Lies}
+use Rattle.lj_upload.specs.Names.{HoldsName, IsName}
 
-pub Lies-laid : (name zeros : List ℕ) → zeros ≡ replicate 32 0 → IsName name
-    → Lies (length name) (name ++ drop (length name) zeros)
-Lies-laid name zeros all h =
-    let rest : drop (length name) zeros ≡ replicate (32 - length name) 0 = ap (drop (length name)) all ∙ drop-replicate
-    (length name) 32 0 in
-    let front : take (length name) (name ++ drop (length name) zeros) ≡ name = take-append_seam name
-    (drop (length name) zeros) in
+pub HoldsName-laid : (name zeros : List ℕ) → zeros ≡ replicate 32 0 → IsName name
+    → HoldsName (length name) (name ++ drop (length name) zeros)
+HoldsName-laid name zeros all h =
+    let rest : drop (length name) zeros ≡ replicate (32 - length name) 0 =
+    ap (drop (length name)) all ∙ drop-replicate (length name) 32 0 in
+    let front : take (length name) (name ++ drop (length name) zeros) ≡ name =
+    take-append_seam name (drop (length name) zeros) in
     let whole : length zeros ≡ 32 = ap length all in
     record {
-      size_is = omega (arith, length-append name (drop (length name) zeros), length-drop (length name) zeros, h.short);
-      within = h.short;
+      padding = record {
+        within = h.short;
+        size_is = omega (
+          arith,
+          length-append name (drop (length name) zeros),
+          length-drop
+              (length name) zeros,
+          h.short,
+        );
+        padded = ap (λ r. name ++ r) rest ∙ ap (λ f. f ++ replicate (32 - length name) 0) (sym front);
+      };
       name = subst IsName (sym front) h;
-      padded = ap (λ r. name ++ r) rest ∙ ap (λ f. f ++ replicate (32 - length name) 0) (sym front);
     }
 
 -- two padded arrays with their lengths are the same where the lists are

@@ -1,15 +1,6 @@
--- How many blocks hold a point, or both points of a pair, and where this is least.
-use Rattle.std.specs.Prelude.{◌≡◌, ℕ, ◌<◌, ◌≤◌, ◌⊎◌, ◌&&◌, List}
-use Rattle.std.specs.List.{count_by}
-use Rattle.lj_cover.specs.Operations.{has_point}
-
--- the number of blocks that hold x
-abbrev pub degree_at : List (List ℕ) → ℕ → ℕ
-degree_at blocks x = count_by (λ b. has_point b x) blocks
-
--- the number of blocks that hold both x and y
-abbrev pub pair_degree_at : List (List ℕ) → ℕ → ℕ → ℕ
-pair_degree_at blocks x y = count_by (λ b. has_point b x && has_point b y) blocks
+-- Where a number of blocks is least: the first point that is on the fewest blocks, and the first pair.
+use Rattle.std.specs.Prelude.{◌≡◌, ℕ, ◌<◌, ◌≤◌, ◌⊎◌, List}
+use Rattle.lj_cover.specs.Operations.{degree_at, pair_degree_at}
 
 -- x is the first number from lo on and below hi at which f is least, and f is n there
 pub record IsFirstLeast (lo hi : ℕ) (f : ℕ → ℕ) (x n : ℕ) : Type 0 where

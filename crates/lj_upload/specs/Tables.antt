@@ -1,7 +1,7 @@
 -- The tables in which blocks are counted.
 use Rattle.std.specs.Prelude.{◌≡◌, ℕ, ◌+◌, ◌≤◌, ◌==◌, List, [], length, slice_index, slice_index_or, slice_set}
 use Rattle.std.specs.List.{count_by}
-use Rattle.lj_upload.specs.Degrees.{pair_degree_at}
+use Rattle.lj_cover.specs.Operations.{pair_degree_at}
 
 -- what stands in the row at the place, and 0 outside the table
 abbrev pub entry : List (List ℕ) → ℕ → ℕ → ℕ

@@ -1,4 +1,4 @@
-ghost use Rattle.std.specs.Prelude.{◌≡◌, ◌^◌, ◌<◌, ◌≤◌, ◌↔◌, [], ◌∷◌, IfOk, IsTrue, length};
+ghost use Rattle.std.specs.Prelude.{◌≡◌, ℕ, ◌^◌, ◌<◌, ◌≤◌, ◌⊎◌, ◌↔◌, [], ◌∷◌, IfOk, IsTrue, length, slice_index, sum};
 ghost use Rattle.lj_cover.specs.Instances.{cut_counts};
 ghost use Rattle.lj_upload.specs.Degrees.{IsLeastDegree, IsLeastPair};
 ghost use Rattle.lj_upload.specs.Uploads.{IsAccepted};
@@ -7,6 +7,7 @@ use crate::names::Name;
 use crate::summaries::Summary;
 use lj_base::{MAX_BLOCKS, Memory};
 use lj_cover::Design;
+use lj_cover::laws::rows_count_blocks;
 use std::alloc::Global;
 use std::marker::Model;
 
@@ -129,11 +130,15 @@ impl Accepted {
         }
     }
 
-    /// How many blocks have `l` points below `w`, at each place `l`. Cost: one look-up.
+    /// How many blocks have `l` points below `w`, at each place `l`: in all as many as there are blocks, and none for
+    /// an `l` above a block's size or above `w`. Cost: one look-up.
     pub fn counts(&self, w: u64) -> [u32; 26]
         requires { w ≤ self.now.cell.v }
-        ensures { result ≡ cut_counts w self.now.blocks }
+        ensures counts { result ≡ cut_counts w self.now.blocks }
+        ensures sum { sum result ≡ length self.now.blocks }
+        ensures end { (l : ℕ) → (self.now.cell.k < l) ⊎ (w < l) → slice_index result l ≡ 0 }
     {
+        rows_count_blocks();
         self.summary.counts[w as usize]
     }
 }

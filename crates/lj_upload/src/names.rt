@@ -12,17 +12,21 @@ pub struct Name {
 
 impl Model for Name {
     ghost use Rattle.std.specs.Prelude.{ℕ, List, ◌-◌, ◌++◌, length, take, replicate};
-    ghost use Rattle.lj_upload.specs.Names.{Lies, array_back, count_back};
+    ghost use Rattle.lj_base.specs.Padding.{array_back, count_back};
+    ghost use Rattle.lj_upload.specs.Names.{HoldsName};
 
     ghost Value = { List ℕ };
 
     ghost view = { λ n. take n.len n.bytes };
 
-    ghost invariant = { λ n. Lies n.len n.bytes };
+    ghost invariant = { λ n. HoldsName n.len n.bytes };
 
     ghost inverse = { λ s. record { bytes = s ++ replicate (32 - length s) 0; len = length s } };
 
-    ghost inverse_ok = { λ n h i. record { bytes = array_back n.len n.bytes h i; len = count_back n.len n.bytes h i } };
+    ghost inverse_ok = { λ n h i. record {
+      bytes = array_back 32 n.len n.bytes h.padding i;
+      len = count_back 32 n.len n.bytes h.padding i;
+    } };
 }
 
 impl Name {
@@ -43,6 +47,7 @@ impl Name {
         })
     }
 
+    /// Its bytes, in ASCII.
     pub fn bytes(&self) -> &[u8]
         ensures bytes { result.now ≡ self.now }
         ensures name { IsName self.now }

@@ -1,6 +1,5 @@
-use Rattle.std.proofs.Common.{◌∙◌, [], ap, arith, length}
+use Rattle.std.proofs.Common.{length}
 use Rattle.lj_base.proofs.Ascending.{Ascends-get_or_below}
-use Rattle.lj_deriv.specs.Nodes.{Nodes}
 use Rattle.lj_deriv.proofs.copying.copied_uploads.Goals as goal
 
 pub push_upload-requires-clause-there : goal.push_upload-requires-clause-there

@@ -1,5 +1,5 @@
-use Rattle.std.proofs.Common.{◌≡◌, ◌∙◌, ℕ, ◌+◌, suc, ◌<◌, List, ◌∷◌, ap, arith, drop, drop-cons, get_or, length, refl}
-use Rattle.std.proofs.Common.{subst, sym}
+use Rattle.std.proofs.Common.{◌≡◌, ◌∙◌, ℕ, ◌+◌, suc, ◌<◌, List, ◌∷◌, arith, drop, drop-cons, get_or, length, refl}
+use Rattle.std.proofs.Common.{subst}
 use Rattle.std.specs.List.{AllByRecursion}
 use Rattle.lj_deriv.proofs.Marking.{named-more}
 use Rattle.lj_deriv.proofs.copying.marked_uploads.Goals as goal

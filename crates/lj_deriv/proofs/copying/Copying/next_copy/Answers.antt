@@ -1,10 +1,11 @@
-use Rattle.std.proofs.Common.{◌≡◌, ◌∙◌, ◌<◌, length, ap, arith, get_or, subst, sym}
+use Rattle.std.proofs.Common.{◌≡◌, ◌∙◌, length, ap, get_or, subst, sym}
 use Rattle.std.proofs.lemmas.List.Elements.{Contains-get_or}
 use Rattle.std.specs.List.{AllByRecursion, Contains}
 use Rattle.lj_base.proofs.Lists.{AllByRecursion-both}
-use Rattle.lj_deriv.specs.Trees.{uploads_of}
+use Rattle.lj_deriv.specs.Trees.{trees_of, uploads_of}
 use Rattle.lj_deriv.specs.Copies.{renumber}
 use Rattle.lj_deriv.proofs.CopySteps.{IsAt, IsAt-kept}
+use Rattle.lj_deriv.proofs.Sizes.{HasPlaces-full}
 use Rattle.lj_deriv.proofs.copying.Copying.next_copy.Goals as goal
 
 pub returns : goal.returns
@@ -27,7 +28,10 @@ returns c =
       is_next = c.requires.next;
       node = c.rule-rule.ensures.node;
       inside = c.rule-rule.ensures.inside;
-      full = c.renumbered.ensures.full;
+      places =
+          HasPlaces-full c.sizes_of_cuts.ensures.by_row a.uploads
+          (trees_of a.uploads a.rules) r c.renumbered.ensures.full
+          c.rule-rule.ensures.node.sound;
       upload = AllByRecursion-both (Contains named) (λ u. q ≡ get_or c.args.self.now.uploads.items u 0) (IsAt named q)
           (uploads_of r)
           (λ u has is. IsAt-kept a p named c.args.self.now.uploads.items q u h.uploads_copied h.all_uploads has is) all

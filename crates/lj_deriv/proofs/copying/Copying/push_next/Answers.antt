@@ -1,4 +1,4 @@
-use Rattle.std.proofs.Common.{◌≡◌, ◌∙◌, suc, ◌<◌, ap, arith, get_or, length}
+use Rattle.std.proofs.Common.{suc, ◌<◌, ap, arith, get_or, length}
 use Rattle.lj_base.proofs.Ascending.{Ascends-get_or_below}
 use Rattle.lj_deriv.proofs.CopySteps.{IsCopying-push, copy_inside, copy_valid}
 use Rattle.lj_deriv.proofs.copying.Copying.push_next.Goals as goal
