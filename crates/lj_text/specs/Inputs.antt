@@ -5,9 +5,8 @@ use Rattle.lj_text.specs.declared.input.ReadFail.{ReadFail}
 use Rattle.lj_text.specs.declared.input.ReadFail.TheVariants.{ReadFault, TooLarge, Memory}
 use Rattle.lj_text.specs.declared.input.TheConstants.{PIECE}
 
--- these bytes were read, and no more than `most`; where the source reports what it has left, they were the first of
--- that,
--- and the others are left
+-- these bytes were read, and are no more than `most`; where the source reports what it has left, they were the first
+-- of that, and the others are left
 pub record HasRead (left left_now : Option (List ℕ)) (bytes : List ℕ) (most : ℕ) : Type 0 where
   pub taken : Consumes left left_now bytes
   pub within : length bytes ≤ most
