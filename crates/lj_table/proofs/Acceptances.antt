@@ -35,7 +35,8 @@ fits_spare a a2 q e h = subst (λ x. Fits x q) (sym e) (record {
 pub table_spare : (t : Contents) (a2 : Nodes) → a2 ≡ record t.arena { spare = a2.spare } → IsTable t
     → IsTable (record t { arena = a2 })
 table_spare t a2 e h = subst (λ x. IsTable (record t { arena = x })) (sym e) (record {
-  lists = record { bounds = h.lists.bounds; nodes = h.lists.nodes; closed = h.lists.closed; busy = h.lists.busy; index = h.lists.index };
+  lists = record { bounds = h.lists.bounds; nodes = h.lists.nodes; closed = h.lists.closed; busy =
+      h.lists.busy; index = h.lists.index };
   good = h.good;
   nodes = λ c at. let w = h.nodes c at in record { there = w.there; cell = w.cell; cost = w.cost };
   busy = h.busy;
@@ -75,7 +76,9 @@ pub fits_pushed : (a a2 : Nodes) (u : Upload) (q : TicketLists) → IsPushed a u
 fits_pushed a a2 u q p h = record {
   frame = h.frame ∙ sym p.frame;
   nodes = λ c at. node_pushed a a2 u p (at_cell q.frame q.nodes c) c (at_cell q.frame q.bounds c) (h.nodes c at);
-  rows = subst (λ us. All (IsRowOf us q.cell) q.rows) (sym p.uploads) (All-weaker (IsRowOf a.uploads q.cell) (IsRowOf (a.uploads ++ u ∷ []) q.cell) (λ r k. more_uploads a.uploads (a.uploads ++ u ∷ []) u q.cell r refl k) q.rows h.rows);
+  rows = subst (λ us. All (IsRowOf us q.cell) q.rows) (sym p.uploads)
+      (All-weaker (IsRowOf a.uploads q.cell) (IsRowOf (a.uploads ++ u ∷ []) q.cell)
+      (λ r k. more_uploads a.uploads (a.uploads ++ u ∷ []) u q.cell r refl k) q.rows h.rows);
 }
 
 pub lists_pushed : (t : Contents) (a2 : Nodes) (u : Upload) → IsPushed t.arena u a2 → AreLists t
@@ -93,24 +96,35 @@ module _ (t n : Contents) (a2 : Nodes) (u : Upload) (table : IsTable t) (p : IsP
   in_a2 : (c : Triple) → InFrame t.arena.frame c → InFrame a2.frame c
   in_a2 c at = subst (λ f. InFrame f c) (sym p.frame) at
 
-  marks : (d : Triple) → InFrame t.arena.frame d → (mark_at t.arena.frame n.closed d ≡ false) ↔ ((mark_at t.arena.frame t.closed d ≡ false) ⊎ ((d.t ≡ u.cell.t) × (d.v ≤ u.cell.v)) ⊎ ReadsFallen t.arena.frame t.bounds n.bounds d)
-  marks d at = subst (λ f. (mark_at f n.closed d ≡ false) ↔ ((mark_at f t.closed d ≡ false) ⊎ ((d.t ≡ u.cell.t) × (d.v ≤ u.cell.v)) ⊎ ReadsFallen f t.bounds n.bounds d)) p.frame (k.opened d (in_a2 d at))
+  marks : (d : Triple) → InFrame t.arena.frame d → (mark_at t.arena.frame n.closed d ≡ false) ↔
+      ((mark_at t.arena.frame t.closed d ≡ false) ⊎ ((d.t ≡ u.cell.t) × (d.v ≤ u.cell.v))
+      ⊎ ReadsFallen t.arena.frame t.bounds n.bounds d)
+  marks d at = subst (λ f. (mark_at f n.closed d ≡ false) ↔
+      ((mark_at f t.closed d ≡ false) ⊎ ((d.t ≡ u.cell.t) × (d.v ≤ u.cell.v)) ⊎ ReadsFallen f t.bounds n.bounds d))
+      p.frame (k.opened d (in_a2 d at))
 
-  step_in : Accepts (state_of t) u (record { frame = n.arena.frame; uploads = n.arena.uploads; bounds = at_cell t.arena.frame n.bounds; pending = λ c. not (mark_at t.arena.frame n.closed c) })
+  step_in : Accepts (state_of t) u (record { frame = n.arena.frame; uploads = n.arena.uploads; bounds =
+      at_cell t.arena.frame n.bounds; pending = λ c. not (mark_at t.arena.frame n.closed c) })
   step_in = record {
     frame = k.frame ∙ p.frame;
     uploads = k.uploads ∙ p.uploads;
     bounds = λ c at. subst (λ f. IsLesser u c (at_cell f t.bounds c) (at_cell f n.bounds c)) p.frame
     (k.bounds c (in_a2 c at));
     pending = λ d at. (
-      λ q. ⊎_elim (λ e. inl ((not_iff (mark_at t.arena.frame t.closed d)).1 e)) (λ w. inr (⊎_elim (λ s. inl s) (λ r. inr (r.cell, r.inside, r.fell, r.reads)) w)) ((marks d at).0 ((not_iff (mark_at t.arena.frame n.closed d)).0 q)),
-      λ w. (not_iff (mark_at t.arena.frame n.closed d)).1 ((marks d at).1 (⊎_elim (λ e. inl ((not_iff (mark_at t.arena.frame t.closed d)).0 e))
-          (λ v. inr (⊎_elim (λ s. inl s) (λ r. inr (record { cell = r.0; inside = r.1; fell = r.2; reads = r.3 })) v)) w)),
+      λ q. ⊎_elim (λ e. inl ((not_iff (mark_at t.arena.frame t.closed d)).1 e))
+          (λ w. inr (⊎_elim (λ s. inl s) (λ r. inr (r.cell, r.inside, r.fell, r.reads)) w))
+          ((marks d at).0 ((not_iff (mark_at t.arena.frame n.closed d)).0 q)),
+      λ w. (not_iff (mark_at t.arena.frame n.closed d)).1
+          ((marks d at).1 (⊎_elim (λ e. inl ((not_iff (mark_at t.arena.frame t.closed d)).0 e))
+          (λ v. inr (⊎_elim (λ s. inl s) (λ r. inr (record { cell = r.0; inside = r.1; fell = r.2; reads = r.3 })) v))
+              w)),
     );
   }
 
   pub accept_is : Accepts (state_of t) u (state_of n)
-  accept_is = subst (λ h. Accepts (state_of t) u (record { frame = n.arena.frame; uploads = n.arena.uploads; bounds = at_cell h n.bounds; pending = λ c. not (mark_at h n.closed c) })) (sym (k.frame ∙ p.frame)) step_in
+  accept_is = subst (λ h. Accepts (state_of t) u
+      (record { frame = n.arena.frame; uploads = n.arena.uploads; bounds = at_cell h n.bounds; pending = λ c. not
+      (mark_at h n.closed c) })) (sym (k.frame ∙ p.frame)) step_in
 
   busy_after : (j : ℕ) → get_or n.closed j false ≡ true → get_or n.busy j false ≡ true
   busy_after j h = still_busy t.closed t.busy n.closed n.busy j k.marks (table.busy j) h
@@ -126,13 +140,15 @@ module _ (t n : Contents) (a2 : Nodes) (u : Upload) (table : IsTable t) (p : IsP
       (λ f. at_cell f n.bounds c ≡ at_cell f t.bounds c → at_cell f n.nodes c ≡ at_cell f t.nodes c)
       p.frame (k.keeps c (in_a2 c at)) same
 
-  pub accepted_table : ((s m : State) (w : Upload) → Good s → IsCovering w → InFrame s.frame w.cell → Accepts s w m → Good m) → IsCovering u → InFrame t.arena.frame u.cell → IsTable n
+  pub accepted_table : ((s m : State) (w : Upload) → Good s → IsCovering w → InFrame s.frame w.cell → Accepts s w m →
+      Good m) → IsCovering u → InFrame t.arena.frame u.cell → IsTable n
   accepted_table law covers inside = record {
     lists = k.lists;
     good = law (state_of t) (state_of n) u table.good covers inside accept_is;
     nodes =
         subst (λ f. AreNodes f n.arena n.nodes n.bounds) (sym k.frame)
         (k.are (λ c at. node_pushed t.arena a2 u p (at_cell a2.frame t.nodes c) c (at_cell a2.frame t.bounds c)
-        (subst (λ f. IsNodeOf t.arena (at_cell f t.nodes c) c (at_cell f t.bounds c)) (sym p.frame) (table.nodes c (subst (λ f. InFrame f c) p.frame at)))));
+        (subst (λ f. IsNodeOf t.arena (at_cell f t.nodes c) c (at_cell f t.bounds c)) (sym p.frame)
+            (table.nodes c (subst (λ f. InFrame f c) p.frame at)))));
     busy = busy_after;
   }

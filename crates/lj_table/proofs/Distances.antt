@@ -12,7 +12,8 @@ use Rattle.lj_table.specs.Tables.{Contents}
 fewer : (marks : List Bool) (i : ℕ) → i < length marks → get_or marks i false ≡ false
     → count_by not (set marks i true) + 1 ≡ count_by not marks
 fewer marks i inside was =
-    let moved : count_by not (set marks i true) + cond {A = ℕ} (not (get_or marks i false)) 1 0 ≡ count_by not marks + 0 =
+    let moved : count_by not (set marks i true) + cond {A = ℕ}
+    (not (get_or marks i false)) 1 0 ≡ count_by not marks + 0 =
     sum_by-set (λ (b : Bool). cond {A = ℕ} (not b) 1 0) marks i true false inside in
     let one : cond {A = ℕ} (not (get_or marks i false)) 1 0 ≡ 1 = ap (λ (b : Bool). cond {A = ℕ} (not b) 1 0) was in
     omega (arith, moved, one)

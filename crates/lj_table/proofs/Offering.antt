@@ -46,14 +46,29 @@ fallen_both t m n a b g h = record {
   fits = λ q k. h.fits q (g.fits q k);
   lists = h.lists;
   are = λ k. subst (λ f. AreNodes f n.arena n.nodes n.bounds) g.frame
-  (h.are (subst (λ f. AreNodes f m.arena m.nodes m.bounds) (sym g.frame) (g.are k)));
+      (h.are (subst (λ f. AreNodes f m.arena m.nodes m.bounds) (sym g.frame) (g.are k)));
   most = λ c at. le_trans (below_m c at) (g.most c at);
   opened = λ d at. (
-    λ q. ⊎_elim (λ e. ⊎_elim (λ k. inl k) (λ (r : ReadsFallen t.arena.frame t.bounds m.bounds d). inr (record { cell = r.cell; inside = r.inside; fell = omega (arith, below_m r.cell r.inside, r.fell); reads = r.reads })) ((g.opened d at).0 e))
-        (λ r. inr (record { cell = r.cell; inside = r.inside; fell = omega (arith, g.most r.cell r.inside, r.fell); reads = r.reads })) ((opened_m d at).0 q),
+    λ q. ⊎_elim (λ e. ⊎_elim (λ k. inl k) (λ (r : ReadsFallen t.arena.frame t.bounds m.bounds d). inr
+        (record {
+          cell = r.cell;
+          inside = r.inside;
+          fell = omega (arith, below_m r.cell r.inside, r.fell);
+          reads =
+              r.reads;
+        })) ((g.opened d at).0 e))
+        (λ r. inr (record {
+          cell = r.cell;
+          inside = r.inside;
+          fell = omega
+              (arith, g.most r.cell r.inside, r.fell);
+          reads = r.reads;
+        })) ((opened_m d at).0 q),
     λ w. ⊎_elim (λ e. (opened_m d at).1 (inl ((g.opened d at).1 (inl e))))
-        (λ r. ⊎_elim (λ low. (opened_m d at).1 (inl ((g.opened d at).1 (inr (record { cell = r.cell; inside = r.inside; fell = low; reads = r.reads })))))
-        (λ high. (opened_m d at).1 (inr (record { cell = r.cell; inside = r.inside; fell = omega (arith, r.fell, high); reads = r.reads })))
+        (λ r. ⊎_elim (λ low. (opened_m d at).1
+        (inl ((g.opened d at).1 (inr (record { cell = r.cell; inside = r.inside; fell = low; reads = r.reads })))))
+        (λ high. (opened_m d at).1 (inr (record
+        { cell = r.cell; inside = r.inside; fell = omega (arith, r.fell, high); reads = r.reads })))
         (low_or (at_cell t.arena.frame m.bounds r.cell) (at_cell t.arena.frame t.bounds r.cell))) w,
   );
   marks = both_opened t.closed t.busy m.closed m.busy n.closed n.busy g.marks h.marks;
@@ -69,8 +84,11 @@ fallen_both t m n a b g h = record {
         subst (λ f. at_cell f n.bounds c ≤ at_cell f m.bounds c) g.frame
         (h.most c (subst (λ f. InFrame f c) (sym g.frame) at))
 
-    opened_m : (d : Triple) → InFrame t.arena.frame d → (mark_at t.arena.frame n.closed d ≡ false) ↔ ((mark_at t.arena.frame m.closed d ≡ false) ⊎ ReadsFallen t.arena.frame m.bounds n.bounds d)
-    opened_m d at = subst (λ f. (mark_at f n.closed d ≡ false) ↔ ((mark_at f m.closed d ≡ false) ⊎ ReadsFallen f m.bounds n.bounds d)) g.frame (h.opened d (subst (λ f. InFrame f d) (sym g.frame) at))
+    opened_m : (d : Triple) → InFrame t.arena.frame d → (mark_at t.arena.frame n.closed d ≡ false) ↔
+        ((mark_at t.arena.frame m.closed d ≡ false) ⊎ ReadsFallen t.arena.frame m.bounds n.bounds d)
+    opened_m d at = subst (λ f. (mark_at f n.closed d ≡ false) ↔
+        ((mark_at f m.closed d ≡ false) ⊎ ReadsFallen f m.bounds n.bounds d)) g.frame
+        (h.opened d (subst (λ f. InFrame f d) (sym g.frame) at))
 
     low_or : (a b : ℕ) → (a < b) ⊎ (b ≤ a)
     low_or a b = cases_lt a b
@@ -98,13 +116,16 @@ offered_by t c cost m closed2 busy2 inside lists low s o =
         lists = lists_after t m c cost closed2 busy2 lists s o.marks;
         are = s.are;
         keeps = λ d at same. ⊎_elim
-            (λ q. absurd (less_self (sym s.bound ∙ ap (at_cell t.arena.frame m.bounds) (sym q) ∙ same ∙ ap (at_cell t.arena.frame t.bounds) q) low))
+            (λ q. absurd (less_self (sym s.bound ∙ ap (at_cell t.arena.frame m.bounds) (sym q) ∙ same ∙ ap
+            (at_cell t.arena.frame t.bounds) q) low))
             (λ other. s.nodes_others d at other) (cell_cases d c);
         most = λ d at. ⊎_elim
-            (λ e. subst (λ z. at_cell t.arena.frame m.bounds z ≤ at_cell t.arena.frame t.bounds z) (sym e) (omega (arith, now, low)))
+            (λ e. subst (λ z. at_cell t.arena.frame m.bounds z ≤ at_cell t.arena.frame t.bounds z) (sym e)
+            (omega (arith, now, low)))
             (λ other. same_le (s.others d at other)) (cell_cases d c);
         opened = λ d at. (
-          λ q. ⊎_elim (λ e. inl e) (λ r. inr (record { cell = c; inside = inside; fell = omega (arith, now, low); reads = r })) ((o.opened d at).0 q),
+          λ q. ⊎_elim (λ e. inl e) (λ r. inr (record
+              { cell = c; inside = inside; fell = omega (arith, now, low); reads = r })) ((o.opened d at).0 q),
           λ w. (o.opened d at).1 (⊎_elim (λ e. inl e)
               (λ r. inr (⊎_elim (λ e. subst (λ z. Reads t.arena.frame d z) e r.reads)
               (λ other. absurd (less_self (s.others r.cell r.inside other) r.fell)) (cell_cases r.cell c))) w),
@@ -139,8 +160,14 @@ stage_of t n u lo hi c cost r next offer costs all o = record {
         let p = all d q is (omega (arith, low, high, next)) in
         le_trans (subst (λ z. at_cell t.arena.frame n.bounds z ≤ cost) (sym p.0) o.low) p.1;
     one = ⊎_elim
-        (λ e. ⊎_elim (λ s. inl (subst (λ z. at_cell t.arena.frame n.bounds z ≡ at_cell t.arena.frame t.bounds z) (sym e) s))
-        (λ s. inr (r, subst (λ z. IsOffer u z r) (sym e) offer, costs ∙ sym (ap (at_cell t.arena.frame n.bounds) e ∙ s))) o.one)
+        (λ e. ⊎_elim (λ s. inl (subst (λ z. at_cell t.arena.frame n.bounds z ≡ at_cell t.arena.frame t.bounds z)
+        (sym e) s))
+        (λ s. inr (
+          r,
+          subst (λ z. IsOffer u z r) (sym e) offer,
+          costs ∙ sym
+              (ap (at_cell t.arena.frame n.bounds) e ∙ s),
+        )) o.one)
         (λ other. inl (o.others d at other)) (cell_cases d c);
   };
 }
@@ -161,11 +188,12 @@ stages_both t m n u lo mid hi a b g h = record {
   fallen = fallen_both t m n a b g.fallen h.fallen;
   bounds = λ c at.
       let at_m = subst (λ f. InFrame f c) (sym g.fallen.frame) at in
-      let later = subst (λ f. IsLessened u mid hi c (at_cell f m.bounds c) (at_cell f n.bounds c)) g.fallen.frame (h.bounds c at_m) in
+      let later = subst (λ f. IsLessened u mid hi c (at_cell f m.bounds c) (at_cell f n.bounds c)) g.fallen.frame
+      (h.bounds c at_m) in
       let most = subst (λ f. at_cell f n.bounds c ≤ at_cell f m.bounds c) g.fallen.frame (h.fallen.most c at_m) in
       record {
         each = λ q is low high. ⊎_elim (λ early. le_trans most ((g.bounds c at).each q is low early))
-        (λ late. later.each q is late high) (cases_lt (offer_number q) mid);
+            (λ late. later.each q is late high) (cases_lt (offer_number q) mid);
         one =
             ⊎_elim (λ e. ⊎_elim (λ s. inl (e ∙ s)) (λ s. inr (s.0, s.1, s.2 ∙ sym e)) (g.bounds c at).one)
             (λ s. inr s) later.one;
@@ -188,7 +216,11 @@ number_low u c (Induced v w k) o = absurd o.names
 
 pub leaf_all : (u : Upload) (d : Triple) (q : TreeRule) → IsOffer u d q → offer_number q ≡ 0
     → (d ≡ u.cell) × (length u.blocks ≤ rule_cost q [])
-leaf_all u d (Leaf v) o e = (sym o.cell_is ∙ ap (λ (w : Upload). w.cell) o.names, subst (λ (w : Upload). length u.blocks ≤ length w.blocks) (sym o.names) (omega arith))
+leaf_all u d (Leaf v) o e = (
+  sym o.cell_is ∙ ap (λ (w : Upload). w.cell) o.names,
+  subst
+      (λ (w : Upload). length u.blocks ≤ length w.blocks) (sym o.names) (omega arith),
+)
 leaf_all u d (Derived v x) o e = absurd (omega (arith, e))
 leaf_all u d (Derived2 v x y) o e = absurd (omega (arith, e))
 leaf_all u d (One c) o e = absurd o.names
@@ -237,7 +269,18 @@ pub record IsPair (u : Upload) (d : Triple) (q : TreeRule) : Type 0 where
   pub inside : y < u.cell.v
 
 pub pair_of : (u : Upload) (d : Triple) (q : TreeRule) → IsOffer u d q → offer_number q ≡ 2 → IsPair u d q
-pair_of u d (Derived2 v x y) o e = subst (λ w. IsPair w d (Derived2 v x y)) o.names (record { x = x; y = y; is = refl; cell = sym o.cell_is; t = o.condition.0; v = o.condition.1; order = o.condition.2; inside = o.condition.3 })
+pair_of u d (Derived2 v x y) o e = subst (λ w. IsPair w d (Derived2 v x y)) o.names
+    (record {
+      x = x;
+      y = y;
+      is = refl;
+      cell = sym o.cell_is;
+      t = o.condition.0;
+      v = o.condition.1;
+      order =
+          o.condition.2;
+      inside = o.condition.3;
+    })
 pair_of u d (Leaf v) o e = absurd (omega (arith, e))
 pair_of u d (Derived v x) o e = absurd (omega (arith, e))
 pair_of u d (One c) o e = absurd o.names
@@ -258,13 +301,27 @@ taken_in t m u closed2 busy2 g o = record {
   uploads = g.fallen.uploads;
   spare = g.fallen.spare;
   fits = g.fallen.fits;
-  lists = record { bounds = g.fallen.lists.bounds; nodes = g.fallen.lists.nodes; closed = o.marks.closed_len ∙ g.fallen.lists.closed; busy = o.marks.busy_len ∙ g.fallen.lists.busy; index = g.fallen.lists.index };
+  lists = record {
+    bounds = g.fallen.lists.bounds;
+    nodes = g.fallen.lists.nodes;
+    closed = o.marks.closed_len
+        ∙ g.fallen.lists.closed;
+    busy = o.marks.busy_len ∙ g.fallen.lists.busy;
+    index = g.fallen.lists.index;
+  };
   are = g.fallen.are;
   keeps = g.fallen.keeps;
-  bounds = λ c at. record { most = g.fallen.most c at; each = λ q is. (g.bounds c at).each q is (omega arith) (number_low u c q is); one = (g.bounds c at).one };
+  bounds = λ c at. record {
+    most = g.fallen.most c at;
+    each = λ q is. (g.bounds c at).each q is (omega arith)
+        (number_low u c q is);
+    one = (g.bounds c at).one;
+  };
   opened = λ d at. (
-    λ q. ⊎_elim (λ e. ⊎_elim (λ k. inl k) (λ r. inr (inr r)) ((g.fallen.opened d at).0 e)) (λ p. inr (inl p)) ((o.opened d at).0 q),
-    λ w. (o.opened d at).1 (⊎_elim (λ e. inl ((g.fallen.opened d at).1 (inl e))) (λ v. ⊎_elim (λ p. inr p) (λ r. inl ((g.fallen.opened d at).1 (inr r))) v) w),
+    λ q. ⊎_elim (λ e. ⊎_elim (λ k. inl k) (λ r. inr (inr r)) ((g.fallen.opened d at).0 e)) (λ p. inr (inl p))
+        ((o.opened d at).0 q),
+    λ w. (o.opened d at).1 (⊎_elim (λ e. inl ((g.fallen.opened d at).1 (inl e)))
+        (λ v. ⊎_elim (λ p. inr p) (λ r. inl ((g.fallen.opened d at).1 (inr r))) v) w),
   );
   marks = both_opened t.closed t.busy m.closed m.busy closed2 busy2 g.fallen.marks o.marks;
 }

@@ -30,7 +30,8 @@ both_opened c1 b1 c2 b2 c3 b3 g h = record {
   falls = λ i k. g.falls i (h.falls i k);
   untaken = λ i. (
     λ q. ⊎_elim
-        (λ e. ⊎_elim (λ k. inl k) (λ r. inr (record { before = r.before; after = stays i r.after })) ((g.untaken i).0 e))
+        (λ e. ⊎_elim (λ k. inl k) (λ r. inr (record { before = r.before; after = stays i r.after }))
+            ((g.untaken i).0 e))
         (λ r. inr (record { before = g.falls i r.before; after = r.after })) ((h.untaken i).0 q),
     λ w. ⊎_elim (λ e. (h.untaken i).1 (inl ((g.untaken i).1 (inl e))))
         (λ r. ⊎_elim (λ up. (h.untaken i).1 (inr (record { before = up; after = r.after })))
@@ -63,7 +64,8 @@ still_taken c1 b1 c2 b2 i h =
     (λ down.
     let now : get_or c2 i false ≡ false = stays down in
     let same : get_or b2 i false ≡ get_or b1 i false = same_bool (get_or b2 i false) (get_or b1 i false)
-    (λ q. ⊎_elim (λ e. e) (λ r. absurd (apart (sym r.before ∙ down))) ((h.untaken i).0 q), λ e. (h.untaken i).1 (inl e)) in
+    (λ q. ⊎_elim (λ e. e) (λ r. absurd (apart (sym r.before ∙ down))) ((h.untaken i).0 q), λ e. (h.untaken i).1
+        (inl e)) in
     ap (λ x. x && not (get_or c2 i false)) same ∙ ap (λ x. get_or b1 i false && not x) (now ∙ sym down))
     (cases_Bool (get_or c1 i false))
   where
@@ -97,7 +99,8 @@ pub opened_both : (f : Top) (P Q : Triple → Type 0) (c1 b1 c2 b2 c3 b3 : List 
 opened_both f P Q c1 b1 c2 b2 c3 b3 g h = record {
   marks = both_opened c1 b1 c2 b2 c3 b3 g.marks h.marks;
   opened = λ d i. (
-    λ q. ⊎_elim (λ e. ⊎_elim (λ k. inl k) (λ p. inr (inl p)) ((g.opened d i).0 e)) (λ p. inr (inr p)) ((h.opened d i).0 q),
+    λ q. ⊎_elim (λ e. ⊎_elim (λ k. inl k) (λ p. inr (inl p)) ((g.opened d i).0 e)) (λ p. inr (inr p))
+        ((h.opened d i).0 q),
     λ w. (h.opened d i).1 (⊎_elim (λ e. inl ((g.opened d i).1 (inl e)))
         (λ p. ⊎_elim (λ l. inl ((g.opened d i).1 (inr l))) (λ r. inr r) p) w),
   );
@@ -120,7 +123,8 @@ opened_one f ix d j closed busy closed2 busy2 inside at r = record {
     (cases_eq i j);
   };
   opened = λ e i. ⊎_elim
-      (λ same. (λ _. inr same, λ _. ap (λ z. get_or closed2 (index_of f z) false) same ∙ ap (λ k. get_or closed2 k false) (sym at) ∙ r.here))
+      (λ same. (λ _. inr same, λ _. ap (λ z. get_or closed2 (index_of f z) false) same ∙ ap
+          (λ k. get_or closed2 k false) (sym at) ∙ r.here))
       (λ other. let kept = r.others (index_of f e) (λ q. other (ix.one e d i inside (q ∙ at))) in
       (λ q. inl (sym kept ∙ q), λ w. ⊎_elim (λ q. kept ∙ q) (λ p. absurd (other p)) w))
       (cell_cases e d);
@@ -128,7 +132,8 @@ opened_one f ix d j closed busy closed2 busy2 inside at r = record {
   where
     here : IsLoosened closed busy closed2 busy2 j
     here = ⊎_elim (λ t. (λ _. inr (record { before = t; after = r.here }), λ _. r.was t))
-        (λ e. (λ b. inl (sym (r.kept e) ∙ b), λ w. r.kept e ∙ ⊎_elim (λ l. l) (λ q. absurd (apart (sym q.before ∙ e))) w))
+        (λ e. (λ b. inl (sym (r.kept e) ∙ b), λ w. r.kept e ∙ ⊎_elim (λ l. l)
+            (λ q. absurd (apart (sym q.before ∙ e))) w))
         (cases_Bool (get_or closed j false))
 
     away : (i : ℕ) → i ≢ j → IsLoosened closed busy closed2 busy2 i

@@ -92,11 +92,15 @@ module _ (a : Nodes) (r : Rule) (i : ℕ) (a2 : Nodes) (added : IsAdded a r i a2
         bounds_len = length-set bounds (index_of f c) cost;
         nodes_len = length-set nodes (index_of f c) i;
         are = λ were d at. ⊎_elim
-            (λ e. subst (λ z. IsNodeOf a2 (at_cell f (set nodes (index_of f c) i) z) z (at_cell f (set bounds (index_of f c) cost) z)) (sym e)
-            (subst (λ x. IsNodeOf a2 x c (at_cell f (set bounds (index_of f c) cost) c)) (sym (at_cell-same f lists.index nodes c i inside lists.nodes))
+            (λ e. subst (λ z. IsNodeOf a2 (at_cell f (set nodes (index_of f c) i) z) z
+            (at_cell f (set bounds (index_of f c) cost) z)) (sym e)
+            (subst (λ x. IsNodeOf a2 x c (at_cell f (set bounds (index_of f c) cost) c))
+            (sym (at_cell-same f lists.index nodes c i inside lists.nodes))
             (subst (λ y. IsNodeOf a2 i c y) (sym (at_cell-same f lists.index bounds c cost inside lists.bounds)) here)))
-            (λ other. subst (λ x. IsNodeOf a2 x d (at_cell f (set bounds (index_of f c) cost) d)) (sym (at_cell-other f lists.index nodes c d i inside at other))
-            (subst (λ y. IsNodeOf a2 (at_cell f nodes d) d y) (sym (at_cell-other f lists.index bounds c d cost inside at other))
+            (λ other. subst (λ x. IsNodeOf a2 x d (at_cell f (set bounds (index_of f c) cost) d))
+            (sym (at_cell-other f lists.index nodes c d i inside at other))
+            (subst (λ y. IsNodeOf a2 (at_cell f nodes d) d y)
+            (sym (at_cell-other f lists.index bounds c d cost inside at other))
             (node_kept (at_cell f nodes d) d (at_cell f bounds d) (were d at))))
             (cell_cases d c);
         list = refl;
@@ -125,7 +129,8 @@ less_self e h = omega (arith, e, h)
 pub lowered_by : (t : Contents) (e : Evaluation) (cost : ℕ) (m : Contents) (closed2 busy2 : List Bool)
     → InFrame t.arena.frame e.ticket.cell → AreLists t → found_cost e.found ≡ Some cost
     → cost < at_cell t.arena.frame t.bounds e.ticket.cell → IsStored t e.ticket.cell cost m
-    → IsOpened t.arena.frame (λ d. (d ≢ e.ticket.cell) × Reads t.arena.frame d e.ticket.cell) t.closed t.busy closed2 busy2
+    → IsOpened t.arena.frame (λ d. (d ≢ e.ticket.cell) × Reads t.arena.frame d e.ticket.cell) t.closed t.busy closed2
+    busy2
     → IsLowered t e true (record m { closed = closed2; busy = busy2 })
 lowered_by t e cost m closed2 busy2 inside lists is low s o =
     let f = t.arena.frame in
@@ -133,7 +138,11 @@ lowered_by t e cost m closed2 busy2 inside lists is low s o =
     let priced : found_cost e.found ≡ Some (at_cell t.arena.frame m.bounds e.ticket.cell) =
     is ∙ ap Some (sym s.bound) in
     record {
-      lowers = (λ _. subst (λ o. MatchOption o ⊥ (λ n. n < at_cell t.arena.frame t.bounds e.ticket.cell)) (sym is) low, λ _. refl);
+      lowers = (
+        λ _. subst (λ o. MatchOption o ⊥ (λ n. n < at_cell t.arena.frame t.bounds e.ticket.cell))
+            (sym is) low,
+        λ _. refl,
+      );
       frame = s.frame;
       uploads = s.uploads;
       spare = s.spare;
@@ -144,7 +153,8 @@ lowered_by t e cost m closed2 busy2 inside lists is low s o =
       kept = tt;
       others = s.others;
       keeps = λ d at same. ⊎_elim
-          (λ q. absurd (less_self (sym s.bound ∙ ap (at_cell t.arena.frame m.bounds) (sym q) ∙ same ∙ ap (at_cell t.arena.frame t.bounds) q) low))
+          (λ q. absurd (less_self (sym s.bound ∙ ap (at_cell t.arena.frame m.bounds) (sym q) ∙ same ∙ ap
+          (at_cell t.arena.frame t.bounds) q) low))
           (λ other. s.nodes_others d at other) (cell_cases d c);
       moved = s.list ∙ ap (set t.bounds (index_of f c)) (sym s.bound);
       still = tt;
@@ -227,7 +237,8 @@ taken_none false = refl
 module _ (t m : Contents) (e : Evaluation) (low agreed : Bool) (i : ℕ) (closed2 busy2 : List Bool) (table : IsTable t)
     (fits : Fits t.arena e.ticket) (inside : InFrame t.arena.frame e.ticket.cell)
     (at : i ≡ index_of t.arena.frame e.ticket.cell) (l : IsLowered t e low m)
-    (g : IsGivenBack i agreed m.closed m.busy closed2 busy2) (agrees : (agreed ≡ true) ↔ AgreesWith t.arena t.bounds e.ticket)
+    (g : IsGivenBack i agreed m.closed m.busy closed2 busy2)
+    (agrees : (agreed ≡ true) ↔ AgreesWith t.arena t.bounds e.ticket)
   where
     other_index : (d : Triple) → InFrame t.arena.frame d → d ≢ e.ticket.cell → index_of t.arena.frame d ≢ i
     other_index d h other q = other (table.lists.index.one d e.ticket.cell h inside (q ∙ at))
@@ -310,7 +321,8 @@ module _ (t m : Contents) (e : Evaluation) (low agreed : Bool) (i : ℕ) (closed
 
     -- the cell is not taken any more, and the others are as they were
     pub untaken : is_taken (record m { closed = closed2; busy = busy2 }) e.ticket.cell ≡ false
-    untaken = subst (λ f. (get_or busy2 (index_of f e.ticket.cell) false && not (get_or closed2 (index_of f e.ticket.cell) false)) ≡ false)
+    untaken = subst (λ f. (get_or busy2 (index_of f e.ticket.cell) false && not
+        (get_or closed2 (index_of f e.ticket.cell) false)) ≡ false)
         (sym l.frame) (subst (λ k. (get_or busy2 k false && not (get_or closed2 k false)) ≡ false) at
         (ap (λ b. b && not (get_or closed2 i false)) g.taken ∙ taken_none (get_or closed2 i false)))
 

@@ -110,16 +110,20 @@ module _ (a : Nodes) (f : Top) (nodes bounds : Triple → ℕ)
       let root = (has (triple (c.v + 1) c.k c.t) i.children_inside.0).cell in
       let back : c.v + 1 - 1 ≡ c.v = omega arith in
       subst (λ d. IsRuleFor a c n (kind_node DropKind (nodes d))) e
-      (rule_for c (Drop c) (kind_node DropKind (nodes (triple (c.v + 1) c.k c.t))) n inside i.children_inside refl (record { in_limits = inside.cell; condition = i.condition; upload_covers = tt })
-      (ap (λ (d : Triple). Drop (triple (d.v - 1) d.k d.t)) root ∙ ap (λ v. Drop (triple v c.k c.t)) back) refl tt tt priced small)
+      (rule_for c (Drop c) (kind_node DropKind (nodes (triple (c.v + 1) c.k c.t))) n inside i.children_inside refl
+          (record { in_limits = inside.cell; condition = i.condition; upload_covers = tt })
+      (ap (λ (d : Triple). Drop (triple (d.v - 1) d.k d.t)) root ∙ ap (λ v. Drop (triple v c.k c.t)) back) refl tt tt
+          priced small)
   kind_rule c child AddKind n inside i only priced small =
       let e : triple (c.v - 1) (c.k - 1) c.t ≡ child = cc in
       let root = (has (triple (c.v - 1) (c.k - 1) c.t) i.children_inside.0).cell in
       let v : c.v - 1 + 1 ≡ c.v = omega (arith, inside.cell) in
       let k : c.k - 1 + 1 ≡ c.k = omega (arith, i.condition) in
       subst (λ d. IsRuleFor a c n (kind_node AddKind (nodes d))) e
-      (rule_for c (TreeRule-add c) (kind_node AddKind (nodes (triple (c.v - 1) (c.k - 1) c.t))) n inside i.children_inside refl (record { in_limits = inside.cell; condition = i.condition; upload_covers = tt })
-      (ap (λ (d : Triple). Add (triple (d.v + 1) (d.k + 1) d.t)) root ∙ ap₂ (λ v k. Add (triple v k c.t)) v k) refl tt tt priced small)
+      (rule_for c (TreeRule-add c) (kind_node AddKind (nodes (triple (c.v - 1) (c.k - 1) c.t))) n inside
+          i.children_inside refl (record { in_limits = inside.cell; condition = i.condition; upload_covers = tt })
+      (ap (λ (d : Triple). Add (triple (d.v + 1) (d.k + 1) d.t)) root ∙ ap₂ (λ v k. Add (triple v k c.t)) v k) refl tt
+          tt priced small)
     where
       TreeRule-add : Triple → TreeRule
       TreeRule-add d = Add d
@@ -128,24 +132,34 @@ module _ (a : Nodes) (f : Top) (nodes bounds : Triple → ℕ)
       let root = (has (triple c.v (c.k - 1) c.t) i.children_inside.0).cell in
       let k : c.k - 1 + 1 ≡ c.k = omega (arith, i.condition.0) in
       subst (λ d. IsRuleFor a c n (kind_node GrowKind (nodes d))) e
-      (rule_for c (Grow c) (kind_node GrowKind (nodes (triple c.v (c.k - 1) c.t))) n inside i.children_inside refl (record { in_limits = inside.cell; condition = i.condition; upload_covers = tt })
-      (ap (λ (d : Triple). Grow (triple d.v (d.k + 1) d.t)) root ∙ ap (λ k. Grow (triple c.v k c.t)) k) refl tt tt priced small)
+      (rule_for c (Grow c) (kind_node GrowKind (nodes (triple c.v (c.k - 1) c.t))) n inside i.children_inside refl
+          (record { in_limits = inside.cell; condition = i.condition; upload_covers = tt })
+      (ap (λ (d : Triple). Grow (triple d.v (d.k + 1) d.t)) root ∙ ap (λ k. Grow (triple c.v k c.t)) k) refl tt tt
+          priced small)
   kind_rule c child LowerKind n inside i only priced small =
       let e : triple c.v c.k (c.t + 1) ≡ child = cc in
       let root = (has (triple c.v c.k (c.t + 1)) i.children_inside.0).cell in
       let t : c.t + 1 - 1 ≡ c.t = omega arith in
       subst (λ d. IsRuleFor a c n (kind_node LowerKind (nodes d))) e
-      (rule_for c (Lower c) (kind_node LowerKind (nodes (triple c.v c.k (c.t + 1)))) n inside i.children_inside refl (record { in_limits = inside.cell; condition = i.condition; upload_covers = tt })
-      (ap (λ (d : Triple). Lower (triple d.v d.k (d.t - 1))) root ∙ ap (λ t. Lower (triple c.v c.k t)) t) refl tt tt priced small)
+      (rule_for c (Lower c) (kind_node LowerKind (nodes (triple c.v c.k (c.t + 1)))) n inside i.children_inside refl
+          (record { in_limits = inside.cell; condition = i.condition; upload_covers = tt })
+      (ap (λ (d : Triple). Lower (triple d.v d.k (d.t - 1))) root ∙ ap (λ t. Lower (triple c.v c.k t)) t) refl tt tt
+          priced small)
 
   -- products
-  part_nodes : (c : Triple) (v1 : ℕ) (ps : List PartChoice) → flat_map (λ (p : Part). p.first ∷ p.second ∷ []) (map (part_node nodes c v1) ps) ≡ map nodes (flat_map (part_cells c v1) (map (λ (p : PartChoice). let q : TreePart = record { a = p.a; b = p.b; l = p.l } in q) ps))
+  part_nodes : (c : Triple) (v1 : ℕ) (ps : List PartChoice) → flat_map (λ (p : Part). p.first ∷ p.second ∷ [])
+      (map (part_node nodes c v1) ps) ≡ map nodes
+      (flat_map (part_cells c v1) (map (λ (p : PartChoice). let q : TreePart = record { a = p.a; b = p.b; l = p.l } in
+      q) ps))
   part_nodes c v1 [] = refl
   part_nodes c v1 (p ∷ ps) =
       ap (λ rest. nodes (triple v1 p.l p.b) ∷ nodes (triple (c.v - v1) (c.k - p.l) (c.t - p.a)) ∷ rest)
       (part_nodes c v1 ps)
 
-  part_rules : (c : Triple) (v1 : ℕ) (ps : List PartChoice) → map (λ (p : Part). let q : TreePart = record { a = p.a; b = p.b; l = p.l } in q) (map (part_node nodes c v1) ps) ≡ map (λ (p : PartChoice). let q : TreePart = record { a = p.a; b = p.b; l = p.l } in q) ps
+  part_rules : (c : Triple) (v1 : ℕ) (ps : List PartChoice) → map
+      (λ (p : Part). let q : TreePart = record { a = p.a; b = p.b; l = p.l } in q)
+      (map (part_node nodes c v1) ps) ≡ map (λ (p : PartChoice). let q : TreePart =
+      record { a = p.a; b = p.b; l = p.l } in q) ps
   part_rules c v1 [] = refl
   part_rules c v1 (p ∷ ps) = ap (λ rest. record { a = p.a; b = p.b; l = p.l } ∷ rest) (part_rules c v1 ps)
 
@@ -155,24 +169,33 @@ module _ (a : Nodes) (f : Top) (nodes bounds : Triple → ℕ)
       → IsProductNode nodes c v1 choices count stored → IsRuleFor a c n stored
   product_rule c v1 choices count n stored inside few i priced small node =
       subst (IsRuleFor a c n) (sym node.rule)
-      (rule_for c (Product c v1 (chosen_parts choices count)) _ n inside i.children_inside refl (record { in_limits = inside.cell; condition = i.condition; upload_covers = tt })
-      (ap (Product c v1) (ap (map (λ (p : Part). let q : TreePart = record { a = p.a; b = p.b; l = p.l } in q)) node.are ∙ part_rules c v1 (take count choices)))
-      (ap (flat_map (λ (p : Part). p.first ∷ p.second ∷ [])) node.are ∙ part_nodes c v1 (take count choices)) few tt priced small)
+      (rule_for c (Product c v1 (chosen_parts choices count)) _ n inside i.children_inside refl
+          (record { in_limits = inside.cell; condition = i.condition; upload_covers = tt })
+      (ap (Product c v1) (ap (map (λ (p : Part). let q : TreePart = record { a = p.a; b = p.b; l = p.l } in q))
+          node.are ∙ part_rules c v1 (take count choices)))
+      (ap (flat_map (λ (p : Part). p.first ∷ p.second ∷ [])) node.are ∙ part_nodes c v1 (take count choices)) few tt
+          priced small)
 
   -- a size of a cut above k
   size_children : Shorter → (c : Triple) (children : List ℕ) (m v : ℕ) (bs : List (List ℕ)) (lo n : ℕ)
       → AreBlocks v m bs → m ≤ 25 → c.k < lo → lo + n ≤ suc c.v
       → ((l : ℕ) → c.k < l → l ≤ c.v → l < 26 → get_or children l 0 ≡ nodes (triple l c.k c.t))
-      → map (λ l. get_or children l 0) (filter (λ l. list_any (λ b. eqb (length (cut c.v b)) l) bs) (range_with_len lo n)) ≡ map nodes (map (λ l. triple l c.k c.t) (filter (λ l. list_any (λ b. eqb (length (cut c.v b)) l) bs) (range_with_len lo n)))
+      → map (λ l. get_or children l 0) (filter (λ l. list_any (λ b. eqb (length (cut c.v b)) l) bs)
+          (range_with_len lo n)) ≡ map nodes (map (λ l. triple l c.k c.t)
+          (filter (λ l. list_any (λ b. eqb (length (cut c.v b)) l) bs) (range_with_len lo n)))
   size_children short c children m v bs lo zero h small from to are = refl
   size_children short c children m v bs lo (suc n) h small from to are =
       let rest = size_children short c children m v bs (lo + 1) n h small (omega arith) (omega arith) are in
       cond_both (list_any (λ b. eqb (length (cut c.v b)) lo) bs) _ _
       (λ ls. map (λ l. get_or children l 0) ls ≡ map nodes (map (λ l. triple l c.k c.t) ls))
-      (λ some. let most = size_of_some short v m c.v lo bs h some in ap₂ (λ x xs. x ∷ xs) (are lo from (omega arith) (omega arith)) rest)
+      (λ some. let most = size_of_some short v m c.v lo bs h some in ap₂ (λ x xs. x ∷ xs)
+          (are lo from (omega arith) (omega arith)) rest)
       (λ none. rest)
 
-  pub induced_rule : Shorter → ((f : Top) (us : List Upload) (c : Triple) (u : Upload) → InFrame f c → Contains us u → u.cell.t ≡ c.t → c.v ≤ u.cell.v → IsInstance f us c (Induced u c.v c.k)) → (c : Triple) (u n : ℕ) (stored : Rule) → InFrame f c → AreUploads f a.uploads → u < length a.uploads → (upload_at a.uploads u).cell.t ≡ c.t → c.v ≤ (upload_at a.uploads u).cell.v
+  pub induced_rule : Shorter → ((f : Top) (us : List Upload) (c : Triple) (u : Upload) → InFrame f c → Contains us u →
+      u.cell.t ≡ c.t → c.v ≤ u.cell.v → IsInstance f us c (Induced u c.v c.k)) → (c : Triple) (u n : ℕ) (stored : Rule)
+      → InFrame f c → AreUploads f a.uploads → u < length a.uploads → (upload_at a.uploads u).cell.t ≡ c.t → c.v ≤
+      (upload_at a.uploads u).cell.v
       → price bounds (Induced (upload_at a.uploads u) c.v c.k) ≡ n → n < COST_LIMIT → IsInducedNode nodes c u stored
       → IsRuleFor a c n stored
   induced_rule short instances c u n stored inside covering there t v priced small node =
@@ -181,9 +204,12 @@ module _ (a : Nodes) (f : Top) (nodes bounds : Triple → ℕ)
       let facts =
       All-contains (λ u. IsCovering u × InFrame f u.cell) a.uploads (upload_at a.uploads u) covering has_up in
       let i = instances f a.uploads c (upload_at a.uploads u) inside has_up t v in
-      let kids = size_children short c node.children (upload_at a.uploads u).cell.k (upload_at a.uploads u).cell.v (upload_at a.uploads u).blocks (suc c.k) (c.v - c.k) facts.0.covers.blocks facts.0.in_limits.4 (omega arith) (omega (arith, inside.cell.3)) node.are in
+      let kids = size_children short c node.children (upload_at a.uploads u).cell.k (upload_at a.uploads u).cell.v
+          (upload_at a.uploads u).blocks (suc c.k) (c.v - c.k) facts.0.covers.blocks facts.0.in_limits.4 (omega arith)
+          (omega (arith, inside.cell.3)) node.are in
       subst (IsRuleFor a c n) (sym node.rule)
-      (rule_for c (Induced (upload_at a.uploads u) c.v c.k) _ n inside i.children_inside i.cell_is (sound_of c (Induced (upload_at a.uploads u) c.v c.k) inside covering i)
+      (rule_for c (Induced (upload_at a.uploads u) c.v c.k) _ n inside i.children_inside i.cell_is
+          (sound_of c (Induced (upload_at a.uploads u) c.v c.k) inside covering i)
       refl (kids ∙ ap (λ t. map nodes (map (λ l. triple l c.k t) (sizes_of (upload_at a.uploads u) c.k c.v))) (sym t))
       (sym t) (there, tt) priced small)
 
@@ -205,14 +231,17 @@ module _ (a : Nodes) (f : Top) (nodes bounds : Triple → ℕ)
       let there = slice_get_within a.uploads row.upload is.held is.at_place in
       let frames : AreUploads f a.uploads = subst (λ g. AreUploads g a.uploads) (sym frame) covering in
       let u = upload_at a.uploads (get_or rows choice.place no_row).upload in
-      let facts = All-contains (λ u. IsCovering u × InFrame f u.cell) a.uploads (upload_at a.uploads row.upload) frames (Contains-get_or a.uploads row.upload _ there) in
+      let facts = All-contains (λ u. IsCovering u × InFrame f u.cell) a.uploads (upload_at a.uploads row.upload) frames
+          (Contains-get_or a.uploads row.upload _ there) in
       let t : (upload_at a.uploads (get_or rows choice.place no_row).upload).cell.t ≡ c.t =
       ap (λ (w : Upload). w.cell.t) at ∙ is.t in
       let v : c.v ≤ (upload_at a.uploads (get_or rows choice.place no_row).upload).cell.v =
       subst (λ (w : Upload). c.v ≤ w.cell.v) (sym at) is.v in
-      let counts : cut_counts c.v (upload_at a.uploads (get_or rows choice.place no_row).upload).blocks ≡ (get_or rows choice.place no_row).counts =
+      let counts : cut_counts c.v (upload_at a.uploads (get_or rows choice.place no_row).upload).blocks ≡
+          (get_or rows choice.place no_row).counts =
       ap (λ (w : Upload). cut_counts c.v w.blocks) at ∙ sym is.counts_are in
-      let cost : price bounds (Induced (upload_at a.uploads (get_or rows choice.place no_row).upload) c.v c.k) ≡ choice.cost =
+      let cost : price bounds (Induced (upload_at a.uploads (get_or rows choice.place no_row).upload) c.v c.k) ≡
+          choice.cost =
       priced bounds (upload_at a.uploads row.upload) c.v c.k facts.0.in_limits.4 facts.0.covers.blocks
       ∙ ap₂ (λ d ns. row_price bounds d ns) (same_cell (triple c.v c.k u.cell.t) c refl refl t) counts
       ∙ chosen.cost_is no_row in

@@ -39,8 +39,8 @@ impl Store {
         self.nodes[i] = node;
     }
 
-    /// Where the proposal's price is below its cell's bound, the price becomes the bound, by a new node over the ticket's
-    /// nodes, and the other cells that read the cell are opened.
+    /// Where the proposal's price is below its cell's bound, the price becomes the bound, by a new node over the
+    /// ticket's nodes, and the other cells that read the cell are opened.
     pub fn lower(&mut self, p: &Proposal) -> bool
         requires room { 1 ≤ self.old.arena.spare }
         requires lists { AreLists (contents_of self.old) }

@@ -55,9 +55,9 @@ impl Model for Table {
 }
 
 impl Table {
-    /// A table without uploads, in which each cell is open and none is taken. A cell with `t = 0` or `k = v` starts with
-    /// one block, else one with `t = 1` with blocks in a row, else one with `t = k` with all blocks, and else with the
-    /// cell of one point less in each block. It takes all memory that the marks need.
+    /// A table without uploads, in which each cell is open and none is taken. A cell with `t = 0` or `k = v` starts
+    /// with one block, else one with `t = 1` with blocks in a row, else one with `t = k` with all blocks, and else with
+    /// the covering of the cell of one point less in each block. It takes all memory that the marks need.
     pub fn start(alloc: Global, frame: Frame) -> Result<Table, Memory>
         ensures frame { IfOk result (λ t. t.arena.frame ≡ frame) }
         ensures uploads { IfOk result (λ t. t.arena.uploads ≡ []) }
@@ -180,8 +180,8 @@ impl Table {
     }
 
     /// Appends an upload. It lowers the bounds of its own cell and of the cells derived at its point and at its pair of
-    /// least degree, where these cost less, and opens the cells that read a lowered one and those at which it has a row.
-    /// Cost: a few steps for each cell that is opened.
+    /// least degree, where these cost less, and opens the cells that read a lowered one and those at which it has a
+    /// row. Cost: a few steps for each cell that is opened.
     pub fn accept(&mut self, up: Accepted) -> Result<(), Memory>
         requires inside { InFrame self.old.arena.frame up.cell }
         requires few { length self.old.arena.uploads < MAX_ARENA_UPLOADS }
@@ -203,8 +203,8 @@ impl Table {
         Ok(())
     }
 
-    /// Takes the first open cell in index order that is not taken, or else the first open one, and copies what is needed
-    /// to find a least price there into the ticket. It takes no memory.
+    /// Takes the first open cell in index order that is not taken, or else the first open one, and copies what is
+    /// needed to find a least price there into the ticket. It takes no memory.
     pub fn claim(&mut self, ticket: &mut Ticket) -> Claimed
         requires frame { ticket.old.frame ≡ self.old.arena.frame }
         requires room { length self.old.arena.uploads ≤ ticket.old.room }
@@ -251,8 +251,8 @@ impl Table {
         Outcome { lowered, agreed }
     }
 
-    /// Finds a least price at each open cell, in index order, until none is open; then each bound is the least. It works
-    /// over the table's own lists. After `Memory` bounds may have fallen.
+    /// Finds a least price at the first open cell until none is open; then each bound is the least. It works over the
+    /// table's own lists, and makes the rows of a cell once a turn. After `Memory` bounds may have fallen.
     pub fn settle(&mut self, alloc: Global) -> Result<(), Memory>
         ensures rest { OnOk result (IsAtRest self.new) }
         ensures least { OnOk result (AreLeast self.new) }

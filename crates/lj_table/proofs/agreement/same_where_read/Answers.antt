@@ -17,7 +17,9 @@ loop-j-preserved c =
     (λ d. Reads c.args.frame c.args.c d → at_cell c.args.frame c.args.old.now d ≡ at_cell c.args.frame c.args.new.now d)
     c.loop-j.j c.cell-d.result c.cell-d.ensures.within c.cell-d.ensures.index c.loop-j.invariant
     (λ reads. elim c.else-differ.branch [
-      | else-differ-via-then-differ+else-reads w ↦ absurd (apart (sym (w.reads.ensures.reads.1 reads) ∙ w.if-reads.false))
+      | else-differ-via-then-differ+else-reads w ↦ absurd
+          (apart (sym (w.reads.ensures.reads.1 reads) ∙ w.if-reads.false))
       | else-differ-via-else-differ w ↦
-          subst (λ i. get_or c.args.old.now i 0 ≡ get_or c.args.new.now i 0) (sym c.cell-d.ensures.index) w.if-differ.false
+          subst (λ i. get_or c.args.old.now i 0 ≡ get_or c.args.new.now i 0)
+          (sym c.cell-d.ensures.index) w.if-differ.false
     ])

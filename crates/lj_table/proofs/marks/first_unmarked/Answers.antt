@@ -12,7 +12,8 @@ returns-in-Some-clause-some c =
     record {
       inside = c.cell.ensures.within;
       unmarked = subst (λ i. get_or xs i false ≡ false) (sym c.cell.ensures.index) (not-true _ f.1);
-      first = λ d inside before. not-false _ (f.2 (index_of c.args.frame d) (omega (arith, before, c.cell.ensures.index)));
+      first = λ d inside before. not-false _ (f.2 (index_of c.args.frame d)
+          (omega (arith, before, c.cell.ensures.index)));
     }
 
 pub returns-in-None-clause-none : goal.returns-in-None-clause-none

@@ -7,12 +7,14 @@ pub loop-d-init : goal.loop-d-init
 loop-d-init c = record {
   next = tt;
   finite = tt;
-  walk = walk_begins c.args.frame c.args.c (λ d. Unit {0}) c.of-readers.result c.args.closed.now c.args.busy.now c.of-readers.ensures;
+  walk = walk_begins c.args.frame c.args.c (λ d. Unit {0}) c.of-readers.result c.args.closed.now c.args.busy.now
+      c.of-readers.ensures;
 }
 
 pub index-requires : goal.index-requires
 index-requires c =
-    walk_inside c.args.frame c.args.c c.in-Some.d (λ d. Unit {0}) c.next.new.self c.loop-d.readers c.args.closed.now c.args.busy.now
+    walk_inside c.args.frame c.args.c c.in-Some.d
+    (λ d. Unit {0}) c.next.new.self c.loop-d.readers c.args.closed.now c.args.busy.now
     c.loop-d.closed c.loop-d.busy c.in-Some.ensures.steps c.loop-d.invariant.walk
 
 pub loop-d-preserved : goal.loop-d-preserved
@@ -36,5 +38,6 @@ pub returns : goal.returns
 returns c =
     opened_as c.args.frame (λ d. Unit {0} × Reads c.args.frame d c.args.c) (λ d. Reads c.args.frame d c.args.c)
     c.args.closed.now c.args.busy.now c.loop-d.closed c.loop-d.busy (λ d i. (λ p. p.1, λ r. (tt, r)))
-    (walk_ends c.args.frame c.args.c (λ d. Unit {0}) c.loop-d.readers c.args.closed.now c.args.busy.now c.loop-d.closed c.loop-d.busy
+    (walk_ends c.args.frame c.args.c (λ d. Unit {0}) c.loop-d.readers c.args.closed.now c.args.busy.now c.loop-d.closed
+    c.loop-d.busy
     (c.in_default.ensures.steps.0) c.loop-d.invariant.walk)

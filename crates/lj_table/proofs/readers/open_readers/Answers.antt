@@ -8,12 +8,14 @@ pub loop-d-init : goal.loop-d-init
 loop-d-init c = record {
   next = tt;
   finite = tt;
-  walk = walk_begins c.args.frame c.args.c (λ d. d ≢ c.args.c) c.of-readers.result c.args.closed.now c.args.busy.now c.of-readers.ensures;
+  walk = walk_begins c.args.frame c.args.c (λ d. d ≢ c.args.c) c.of-readers.result c.args.closed.now c.args.busy.now
+      c.of-readers.ensures;
 }
 
 pub index-requires : goal.index-requires
 index-requires c =
-    walk_inside c.args.frame c.args.c c.in-Some.d (λ d. d ≢ c.args.c) c.next.new.self c.loop-d.readers c.args.closed.now c.args.busy.now
+    walk_inside c.args.frame c.args.c c.in-Some.d
+    (λ d. d ≢ c.args.c) c.next.new.self c.loop-d.readers c.args.closed.now c.args.busy.now
     c.loop-d.closed c.loop-d.busy c.in-Some.ensures.steps c.loop-d.invariant.walk
 
 pub loop-d-preserved-then-is_other : goal.loop-d-preserved-then-is_other
@@ -23,7 +25,8 @@ loop-d-preserved-then-is_other c =
       below = c.index_law.ensures.below c.args.frame;
       one = c.index_law.ensures.one_to_one c.args.frame;
     } in
-    let inside = walk_inside f c.args.c c.in-Some.d (λ d. d ≢ c.args.c) c.next.new.self c.loop-d.readers c.args.closed.now
+    let inside = walk_inside f c.args.c c.in-Some.d
+    (λ d. d ≢ c.args.c) c.next.new.self c.loop-d.readers c.args.closed.now
     c.args.busy.now c.loop-d.closed c.loop-d.busy c.in-Some.ensures.steps c.loop-d.invariant.walk in
     record {
       next = tt;
@@ -40,10 +43,12 @@ loop-d-preserved c = record {
   finite = tt;
   walk = walk_skips c.args.frame c.args.c c.in-Some.d (λ d. d ≢ c.args.c) c.next.new.self c.loop-d.readers
       c.args.closed.now c.args.busy.now c.loop-d.closed c.loop-d.busy
-      (λ other. apart (sym (c.is_other.ensures.1 other) ∙ c.if-is_other.false)) c.in-Some.ensures.steps c.loop-d.invariant.walk;
+      (λ other. apart (sym (c.is_other.ensures.1 other) ∙ c.if-is_other.false)) c.in-Some.ensures.steps
+      c.loop-d.invariant.walk;
 }
 
 pub returns : goal.returns
 returns c =
-    walk_ends c.args.frame c.args.c (λ d. d ≢ c.args.c) c.loop-d.readers c.args.closed.now c.args.busy.now c.loop-d.closed
+    walk_ends c.args.frame c.args.c (λ d. d ≢ c.args.c) c.loop-d.readers c.args.closed.now c.args.busy.now
+    c.loop-d.closed
     c.loop-d.busy (c.in_default.ensures.steps.0) c.loop-d.invariant.walk

@@ -29,7 +29,8 @@ loop-k-preserved c =
       k = omega (arith, c.loop-k-test.true, c.most_k-most.ensures.most);
       t = c.requires.within;
     } in
-    opened_as f (λ (x : Triple). ((x.v ≡ c.args.v) × (x.t ≡ c.args.t) × (x.k < c.loop-k.k)) ⊎ (x ≡ triple c.args.v c.loop-k.k c.args.t))
+    opened_as f (λ (x : Triple). ((x.v ≡ c.args.v) × (x.t ≡ c.args.t) × (x.k < c.loop-k.k)) ⊎
+    (x ≡ triple c.args.v c.loop-k.k c.args.t))
     (λ (x : Triple). (x.v ≡ c.args.v) × (x.t ≡ c.args.t) × (x.k < c.loop-k.k + 1))
     c.args.closed.now c.args.busy.now c.reopen.new.closed c.reopen.new.busy
     (λ x i. (
@@ -38,16 +39,26 @@ loop-k-preserved c =
       λ p. ⊎_elim (λ same. inr (same_cell x (triple c.args.v c.loop-k.k c.args.t) p.0 same p.1))
           (λ other. inl (p.0, p.1, omega (arith, p.2, other))) (cases_eq x.k c.loop-k.k),
     ))
-    (opened_both f _ (λ x. x ≡ triple c.args.v c.loop-k.k c.args.t) c.args.closed.now c.args.busy.now c.loop-k.closed c.loop-k.busy
+    (opened_both f _ (λ x. x ≡ triple c.args.v c.loop-k.k c.args.t) c.args.closed.now c.args.busy.now c.loop-k.closed
+    c.loop-k.busy
     c.reopen.new.closed c.reopen.new.busy c.loop-k.invariant
-    (opened_one f ix d c.index.result c.loop-k.closed c.loop-k.busy c.reopen.new.closed c.reopen.new.busy inside c.index.ensures.index c.reopen.ensures))
+    (opened_one f ix d c.index.result c.loop-k.closed c.loop-k.busy c.reopen.new.closed c.reopen.new.busy inside
+    c.index.ensures.index c.reopen.ensures))
 
 pub returns : goal.returns
 returns c =
     opened_as c.args.frame (λ (d : Triple). (d.v ≡ c.args.v) × (d.t ≡ c.args.t) × (d.k < c.loop-k.k))
     (λ (d : Triple). (d.v ≡ c.args.v) × (d.t ≡ c.args.t))
     c.args.closed.now c.args.busy.now c.loop-k.closed c.loop-k.busy
-    (λ d i. (λ p. (p.0, p.1), λ p. (p.0, p.1, omega (arith, p.0, i.k, i.cell.3, c.most_k-most.ensures.most, c.loop-k-test.false)))) c.loop-k.invariant
+    (λ d i. (
+      λ p. (p.0, p.1),
+      λ p. (
+        p.0,
+        p.1,
+        omega
+            (arith, p.0, i.k, i.cell.3, c.most_k-most.ensures.most, c.loop-k-test.false),
+      ),
+    )) c.loop-k.invariant
 
 pub loop-k-init : goal.loop-k-init
 loop-k-init c =

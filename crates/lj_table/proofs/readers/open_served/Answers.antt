@@ -31,4 +31,19 @@ returns c =
     opened_as c.args.frame (λ (d : Triple). (d.t ≡ c.args.c.t) × (d.v < c.loop-v.v))
     (λ (d : Triple). (d.t ≡ c.args.c.t) × (d.v ≤ c.args.c.v))
     c.args.closed.now c.args.busy.now c.loop-v.closed c.loop-v.busy
-    (λ d i. (λ p. (p.0, omega (arith, p.1, c.loop-v.auto.v-end, c.loop-v-test.false, ap (λ (t : Triple). t.v) c.c.view_is)), λ p. (p.0, omega (arith, p.1, c.loop-v.auto.v-end, c.loop-v-test.false, ap (λ (t : Triple). t.v) c.c.view_is)))) c.loop-v.invariant
+    (λ d i. (
+      λ p. (
+        p.0,
+        omega (
+          arith,
+          p.1,
+          c.loop-v.auto.v-end,
+          c.loop-v-test.false,
+          ap
+              (λ (t : Triple). t.v) c.c.view_is,
+        ),
+      ),
+      λ p.
+          (p.0, omega (arith, p.1, c.loop-v.auto.v-end, c.loop-v-test.false, ap (λ (t : Triple). t.v) c.c.view_is)),
+    ))
+    c.loop-v.invariant

@@ -40,14 +40,17 @@ loop-i-preserved c =
     let test = subst (λ (d : Triple). c.serves.result ≡ has_row d u) c.cell-c.ensures.cell c.serves.ensures.test in
     elim c.if-serves.branch [
       | then-serves w ↦
-          let row = subst (λ (d : Triple). w.row_of.result ≡ row_at u c.loop-i.i d) c.cell-c.ensures.cell w.row_of.ensures.row in
+          let row = subst (λ (d : Triple). w.row_of.result ≡ row_at u c.loop-i.i d) c.cell-c.ensures.cell
+          w.row_of.ensures.row in
           w.ticket-is ∙ w.push_row.ensures
           ∙ ap (λ (t : TicketLists). with_rows t (t.rows ++ w.row_of.result ∷ [])) c.loop-i.invariant
           ∙ ap (with_rows q) (append_assoc q.rows front _ ∙ ap (λ rs. q.rows ++ rs)
           (ap (λ r. front ++ r ∷ []) row
-          ∙ ap (λ b. front ++ cond b (row_at u c.loop-i.i q.cell ∷ []) []) (sym (sym test ∙ w.if-serves.true)) ∙ sym more))
+          ∙ ap (λ b. front ++ cond b (row_at u c.loop-i.i q.cell ∷ []) []) (sym (sym test ∙ w.if-serves.true))
+          ∙ sym more))
       | else-serves w ↦
           w.ticket-is ∙ c.loop-i.invariant
           ∙ ap (λ rs. with_rows q (q.rows ++ rs)) (sym (append-nil front)
-          ∙ ap (λ b. front ++ cond b (row_at u c.loop-i.i q.cell ∷ []) []) (sym (sym test ∙ w.if-serves.false)) ∙ sym more)
+          ∙ ap (λ b. front ++ cond b (row_at u c.loop-i.i q.cell ∷ []) []) (sym (sym test ∙ w.if-serves.false))
+          ∙ sym more)
     ]

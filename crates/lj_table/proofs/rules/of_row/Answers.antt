@@ -18,7 +18,9 @@ loop-l-preserved c =
           (λ same. ap (λ i. get_or (set xs c.loop-l.l c.at_cell.result) i 0) same
           ∙ get_or-set_same xs c.loop-l.l c.at_cell.result 0 inside ∙ c.at_cell.ensures
           ∙ ap (at_cell c.args.frame c.args.nodes.now)
-          (same_cell _ _ (sym same) (ap (λ (t : Triple). t.k) c.cell.view_is) (ap (λ (t : Triple). t.t) c.cell.view_is)))
-          (λ other. get_or-set_other xs c.loop-l.l m c.at_cell.result 0 other ∙ c.loop-l.invariant.at m above (omega arith))
+          (same_cell _ _ (sym same) (ap (λ (t : Triple). t.k) c.cell.view_is)
+          (ap (λ (t : Triple). t.t) c.cell.view_is)))
+          (λ other. get_or-set_other xs c.loop-l.l m c.at_cell.result 0 other ∙ c.loop-l.invariant.at m above
+          (omega arith))
           (cases_eq m c.loop-l.l);
     }

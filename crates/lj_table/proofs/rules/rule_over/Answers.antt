@@ -21,7 +21,8 @@ at_cell-requires-clause-inside c =
 pub of_parts-requires : goal.of_parts-requires
 of_parts-requires c =
     let f = c.args.frame in
-    let found = subst (IsFound f (snapshot f c.args.cell c.args.bounds.now c.args.rows.now)) c.in-Product.is c.requires.found in
+    let found = subst (IsFound f (snapshot f c.args.cell c.args.bounds.now c.args.rows.now)) c.in-Product.is
+    c.requires.found in
     let s = found.instance.condition in
     let choice = c.in-Product.choice in
     record {
@@ -36,22 +37,28 @@ pub returns-in-Elementary : goal.returns-in-Elementary
 returns-in-Elementary c =
     let f = c.args.frame in
     let choice = c.in-Elementary.choice in
-    let found = subst (IsFound f (snapshot f c.args.cell c.args.bounds.now c.args.rows.now)) c.in-Elementary.is c.requires.found in
+    let found = subst (IsFound f (snapshot f c.args.cell c.args.bounds.now c.args.rows.now)) c.in-Elementary.is
+    c.requires.found in
     let small = subst (λ d. IfSome (found_cost d) (λ n. n < COST_LIMIT)) c.in-Elementary.is c.requires.small in
-    let node : c.of_kind.result ≡ kind_node c.in-Elementary.choice.kind (at_cell c.args.frame c.args.nodes.now c.in-Elementary.choice.child) =
+    let node : c.of_kind.result ≡ kind_node c.in-Elementary.choice.kind
+    (at_cell c.args.frame c.args.nodes.now c.in-Elementary.choice.child) =
     c.of_kind.ensures ∙ ap (kind_node c.in-Elementary.choice.kind) c.at_cell.ensures in
-    subst (λ d. IfSome (found_cost d) (λ n. IsRuleFor c.args.arena.now c.args.cell n c.of_kind.result)) (sym c.in-Elementary.is)
+    subst (λ d. IfSome (found_cost d) (λ n. IsRuleFor c.args.arena.now c.args.cell n c.of_kind.result))
+    (sym c.in-Elementary.is)
     (subst (IsRuleFor c.args.arena.now c.args.cell choice.cost) (sym node)
     (kind_rule c.args.arena.now f (at_cell f c.args.nodes.now) (at_cell f c.args.bounds.now) c.requires.nodes
-    c.args.cell choice.child choice.kind choice.cost c.requires.inside found.instance found.child_is found.cost_is small))
+    c.args.cell choice.child choice.kind choice.cost c.requires.inside found.instance found.child_is found.cost_is
+    small))
 
 pub returns-in-Product : goal.returns-in-Product
 returns-in-Product c =
     let f = c.args.frame in
     let choice = c.in-Product.choice in
-    let found = subst (IsFound f (snapshot f c.args.cell c.args.bounds.now c.args.rows.now)) c.in-Product.is c.requires.found in
+    let found = subst (IsFound f (snapshot f c.args.cell c.args.bounds.now c.args.rows.now)) c.in-Product.is
+    c.requires.found in
     let small = subst (λ d. IfSome (found_cost d) (λ n. n < COST_LIMIT)) c.in-Product.is c.requires.small in
-    subst (λ d. IfSome (found_cost d) (λ n. IsRuleFor c.args.arena.now c.args.cell n c.of_parts.result)) (sym c.in-Product.is)
+    subst (λ d. IfSome (found_cost d) (λ n. IsRuleFor c.args.arena.now c.args.cell n c.of_parts.result))
+    (sym c.in-Product.is)
     (product_rule c.args.arena.now f (at_cell f c.args.nodes.now) (at_cell f c.args.bounds.now) c.requires.nodes
     c.args.cell choice.v1 choice.parts choice.count choice.cost c.of_parts.result c.requires.inside found.count
     found.instance found.cost_is small c.of_parts.ensures)
@@ -60,9 +67,11 @@ pub returns-in-Induced : goal.returns-in-Induced
 returns-in-Induced c =
     let f = c.args.frame in
     let choice = c.in-Induced.choice in
-    let found = subst (IsFound f (snapshot f c.args.cell c.args.bounds.now c.args.rows.now)) c.in-Induced.is c.requires.found in
+    let found = subst (IsFound f (snapshot f c.args.cell c.args.bounds.now c.args.rows.now)) c.in-Induced.is
+    c.requires.found in
     let small = subst (λ d. IfSome (found_cost d) (λ n. n < COST_LIMIT)) c.in-Induced.is c.requires.small in
-    subst (λ d. IfSome (found_cost d) (λ n. IsRuleFor c.args.arena.now c.args.cell n c.of_row.result)) (sym c.in-Induced.is)
+    subst (λ d. IfSome (found_cost d) (λ n. IsRuleFor c.args.arena.now c.args.cell n c.of_row.result))
+    (sym c.in-Induced.is)
     (row_rule c.args.arena.now f (at_cell f c.args.nodes.now) (at_cell f c.args.bounds.now) c.requires.nodes
     c.points_of_cuts.ensures.shorter c.induced_has_instances.ensures.instance c.price_by_row.ensures.by_row
     c.args.cell c.args.rows.now choice c.of_row.result c.requires.inside c.requires.frame c.requires.uploads

@@ -17,5 +17,6 @@ returns c =
       trees = c.add-node.ensures.trees;
     } in
     begun_next c.args.frame c.args.j c.args.arena.now c.args.bounds.now.items c.args.nodes.now.items c.cell-c.result
-    c.first_rule-rule.result c.add-node.result c.cost.result c.add-node.new.self c.cell-c.ensures.within c.cell-c.ensures.index
+    c.first_rule-rule.result c.add-node.result c.cost.result c.add-node.new.self c.cell-c.ensures.within
+    c.cell-c.ensures.index
     c.requires.before added c.first_rule-rule.ensures c.cost.ensures.cost c.requires.inside

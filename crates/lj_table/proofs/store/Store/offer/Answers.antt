@@ -15,7 +15,8 @@ returns-then-cost-bound c =
     (λ (g : Top). IsOpened g (λ d. Reads g d c.args.c) c.put.new.self.closed c.put.new.self.busy
     c.open_all_readers.new.closed c.open_all_readers.new.busy)
     (c.frame.ensures ∙ c.put.ensures.frame) c.open_all_readers.ensures in
-    offered_by (contents_of c.args.self.now) c.args.c c.args.cost (contents_of c.put.new.self) c.open_all_readers.new.closed
+    offered_by (contents_of c.args.self.now) c.args.c c.args.cost
+    (contents_of c.put.new.self) c.open_all_readers.new.closed
     c.open_all_readers.new.busy c.requires.inside c.requires.lists cheap c.put.ensures
     (subst₂ (λ x y. IsOpened c.args.self.now.arena.frame (λ d. Reads c.args.self.now.arena.frame d c.args.c) x y
     c.open_all_readers.new.closed c.open_all_readers.new.busy) c.put.ensures.closed c.put.ensures.busy opened)

@@ -13,13 +13,17 @@ returns c =
     let u : Upload = upload_at c.args.self.now.arena.uploads c.args.u in
     let got = c.least_pair-first.result in
     let cell : c.cell.result ≡ (upload_at c.args.self.now.arena.uploads c.args.u).cell =
-    c.cell.ensures ∙ ap (λ (d : Covering). d.cell) c.design.ensures.design ∙ ap (λ (w : Upload). w.cell) c.upload-up.ensures in
+    c.cell.ensures ∙ ap (λ (d : Covering). d.cell) c.design.ensures.design ∙ ap
+    (λ (w : Upload). w.cell) c.upload-up.ensures in
     let here : c.derived-c.result ≡ triple (u.cell.v - 2) (u.cell.k - 2) (u.cell.t - 2) =
     c.derived-c.ensures ∙ ap (λ (w : Triple). triple (w.v - 2) (w.k - 2) (w.t - 2)) cell in
-    let least : IsLeastPair u.cell.v u.blocks c.least_pair-first.result.0 c.least_pair-first.result.1 c.least_pair-first.result.2 =
-    subst (λ (w : Upload). IsLeastPair w.cell.v w.blocks c.least_pair-first.result.0 c.least_pair-first.result.1 c.least_pair-first.result.2)
+    let least : IsLeastPair u.cell.v u.blocks c.least_pair-first.result.0 c.least_pair-first.result.1
+    c.least_pair-first.result.2 =
+    subst (λ (w : Upload). IsLeastPair w.cell.v w.blocks c.least_pair-first.result.0 c.least_pair-first.result.1
+    c.least_pair-first.result.2)
     c.upload-up.ensures c.least_pair-first.ensures in
-    stage_of (contents_of c.args.self.now) (contents_of c.offer.new.self) u 2 3 c.derived-c.result c.least_pair-first.result.2
+    stage_of (contents_of c.args.self.now) (contents_of c.offer.new.self) u 2 3 c.derived-c.result
+    c.least_pair-first.result.2
     (Derived2 u c.least_pair-first.result.0 c.least_pair-first.result.1) refl
     (record { names = refl; cell_is = sym here; condition = (c.requires.t, c.requires.v, least.order, least.inside) })
     (sym least.value)

@@ -14,7 +14,8 @@ pub invariant_of-self-in_err-u : goal.invariant_of-self-in_err-u
 invariant_of-self-in_err-u c =
     let t : Contents = contents_of c.self.inside.store in
     subst (λ (a : Nodes). IsTable (record t { arena = a })) (sym c.in_err-u.ensures.err)
-    (table_spare t c.reserve.new.self (spare_alone c.self.inside.store.arena c.reserve.new.self _ c.in_ok-reserve.ensures.ok)
+    (table_spare t c.reserve.new.self (spare_alone c.self.inside.store.arena c.reserve.new.self _
+    c.in_ok-reserve.ensures.ok)
     c.self.invariant)
 
 pushed : (c : goal.After-take_in) → IsPushed c.self.inside.store.arena c.args.up c.push_upload.new.self

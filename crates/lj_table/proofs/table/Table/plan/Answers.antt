@@ -6,7 +6,8 @@ use Rattle.lj_table.proofs.table.Table.plan.Goals as goal
 
 pub returns-clause-derived : goal.returns-clause-derived
 returns-clause-derived c =
-    let there = subst (λ (x : Contents). c.node.result < length x.arena.rules) (sym c.self.view_is) c.node.ensures.derivation.there in
+    let there = subst (λ (x : Contents). c.node.result < length x.arena.rules)
+    (sym c.self.view_is) c.node.ensures.derivation.there in
     let derived = c.nodes_derive.ensures c.node.result there in
     IfOk-weaker c.plan.result (λ p. plan_tree p ≡ node_tree c.self.inside.store.arena c.node.result)
     (λ p. IsDerivedIn c.args.self.now.arena.frame c.args.self.now.arena.uploads (plan_tree p))

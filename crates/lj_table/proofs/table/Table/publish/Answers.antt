@@ -23,7 +23,8 @@ at : (c : goal.After-give_back) → c.index-i.result ≡ index_of c.self.inside.
 at c =
     c.index-i.ensures.index
     ∙ ap (λ f. index_of f c.cell.result) (c.frame.ensures ∙ c.lower-lowered.ensures.frame)
-    ∙ ap (index_of c.self.inside.store.arena.frame) (c.cell.ensures.cell ∙ ap (λ (q : TicketLists). q.cell) c.ticket-ticket.ensures)
+    ∙ ap (index_of c.self.inside.store.arena.frame)
+    (c.cell.ensures.cell ∙ ap (λ (q : TicketLists). q.cell) c.ticket-ticket.ensures)
 
 agrees : (c : goal.After-give_back) → (c.agrees-agreed.result ≡ true)
     ↔ AgreesWith c.self.inside.store.arena c.self.inside.store.bounds.items c.args.p.now.ticket
@@ -33,29 +34,36 @@ agrees c =
 
 pub invariant_of-self : goal.invariant_of-self
 invariant_of-self c =
-    table_is (contents_of c.self.inside.store) (contents_of c.lower-lowered.new.self) c.args.p.now c.lower-lowered.result
-    c.agrees-agreed.result c.index-i.result c.give_back.new.closed c.give_back.new.busy c.self.invariant (fits_before c) (inside c)
+    table_is (contents_of c.self.inside.store)
+    (contents_of c.lower-lowered.new.self) c.args.p.now c.lower-lowered.result
+    c.agrees-agreed.result c.index-i.result c.give_back.new.closed c.give_back.new.busy c.self.invariant
+    (fits_before c) (inside c)
     (at c) c.lower-lowered.ensures c.give_back.ensures (agrees c) c.rows_are_of_uploads.ensures.rows
     c.publish_keeps_good.ensures c.nodes_derive.ensures (own c)
-    (subst (IsLeastPrice c.args.p.now.ticket.frame (snapshot_of c.args.p.now.ticket)) c.cost.ensures.cost c.cost.ensures.least)
+    (subst (IsLeastPrice c.args.p.now.ticket.frame (snapshot_of c.args.p.now.ticket)) c.cost.ensures.cost
+    c.cost.ensures.least)
 
 pub returns-clause-step : goal.returns-clause-step
 returns-clause-step c =
     subst (λ (x : Contents). Publishes (state_of x) (snapshot_of c.args.p.now.ticket) (found_cost c.args.p.now.found)
     c.lower-lowered.result c.agrees-agreed.result
-    (state_of (record (contents_of c.lower-lowered.new.self) { closed = c.give_back.new.closed; busy = c.give_back.new.busy })))
+    (state_of (record (contents_of c.lower-lowered.new.self)
+    { closed = c.give_back.new.closed; busy = c.give_back.new.busy })))
     c.self.view_is
-    (step_is (contents_of c.self.inside.store) (contents_of c.lower-lowered.new.self) c.args.p.now c.lower-lowered.result
+    (step_is (contents_of c.self.inside.store)
+    (contents_of c.lower-lowered.new.self) c.args.p.now c.lower-lowered.result
     c.agrees-agreed.result c.index-i.result c.give_back.new.closed c.give_back.new.busy c.self.invariant (fits_before c)
     (inside c) (at c) c.lower-lowered.ensures c.give_back.ensures (agrees c))
 
 pub returns-clause-taken : goal.returns-clause-taken
 returns-clause-taken c d h other =
     subst (λ (x : Contents). InFrame x.arena.frame d
-    → is_taken (record (contents_of c.lower-lowered.new.self) { closed = c.give_back.new.closed; busy = c.give_back.new.busy }) d
+    → is_taken (record (contents_of c.lower-lowered.new.self)
+    { closed = c.give_back.new.closed; busy = c.give_back.new.busy }) d
     ≡ is_taken x d)
     c.self.view_is
-    (λ k. taken_kept (contents_of c.self.inside.store) (contents_of c.lower-lowered.new.self) c.args.p.now c.lower-lowered.result
+    (λ k. taken_kept (contents_of c.self.inside.store)
+    (contents_of c.lower-lowered.new.self) c.args.p.now c.lower-lowered.result
     c.agrees-agreed.result c.index-i.result c.give_back.new.closed c.give_back.new.busy c.self.invariant (fits_before c)
     (inside c) (at c) c.lower-lowered.ensures c.give_back.ensures (agrees c) d k other) h
 

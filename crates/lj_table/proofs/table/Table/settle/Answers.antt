@@ -25,15 +25,18 @@ loop-c-smaller c =
 pub loop-c-preserved : goal.loop-c-preserved
 loop-c-preserved c = record {
   frame = c.turn.ensures.frame ∙ ap (λ (t : Contents). t.arena.frame) c.reserve.ensures.same ∙ c.loop-c.invariant.frame;
-  uploads = c.turn.ensures.uploads ∙ ap (λ (t : Contents). t.arena.uploads) c.reserve.ensures.same ∙ c.loop-c.invariant.uploads;
+  uploads = c.turn.ensures.uploads ∙ ap (λ (t : Contents). t.arena.uploads) c.reserve.ensures.same
+      ∙ c.loop-c.invariant.uploads;
   falls = λ d at.
       let j = index_of c.args.self.now.arena.frame d in
       le_trans (no_higher _ _ _ c.turn.ensures.turn j)
-      (subst (λ bs. get_or bs (index_of c.args.self.now.arena.frame d) 0 ≤ get_or c.args.self.now.bounds (index_of c.args.self.now.arena.frame d) 0)
+      (subst (λ bs. get_or bs (index_of c.args.self.now.arena.frame d) 0 ≤ get_or c.args.self.now.bounds
+      (index_of c.args.self.now.arena.frame d) 0)
       (sym (ap (λ (t : Contents). t.bounds) c.reserve.ensures.same)) (c.loop-c.invariant.falls d at));
   fits = λ q h. c.turn.ensures.fits q (c.reserve.ensures.fits q (c.loop-c.invariant.fits q h));
 }
 
 pub returns-clause-least : goal.returns-clause-least
 returns-clause-least c =
-    c.rest_is_least.ensures (state_of c.loop-c.self) c.first_open.ensures.table.good (c.first_open.ensures.none c.in_default.is)
+    c.rest_is_least.ensures (state_of c.loop-c.self) c.first_open.ensures.table.good
+    (c.first_open.ensures.none c.in_default.is)

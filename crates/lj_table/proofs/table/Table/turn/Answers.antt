@@ -37,7 +37,8 @@ fits c =
       frame = refl;
       nodes = c.self.invariant.nodes;
       rows = subst (All (IsRowOf us c.args.c)) (sym (rows_is c))
-          (all_of (IsRowOf us c.args.c) (rows_at us c.args.c) (λ r h. (c.rows_are_of_uploads.ensures.rows us c.args.c r).0 h));
+          (all_of (IsRowOf us c.args.c) (rows_at us c.args.c)
+          (λ r h. (c.rows_are_of_uploads.ensures.rows us c.args.c r).0 h));
     }
 
 agrees : (c : goal.After-give_back) → (true ≡ true)
@@ -59,7 +60,8 @@ pub invariant_of-self : goal.invariant_of-self
 unfolding evaluation
 invariant_of-self c =
     table_is (contents_of c.self.inside.store) (contents_of c.lower_here-lowered.new.self) (evaluation c)
-    c.lower_here-lowered.result true c.index.result c.give_back.new.closed c.give_back.new.busy c.self.invariant (fits c)
+    c.lower_here-lowered.result true c.index.result c.give_back.new.closed c.give_back.new.busy c.self.invariant
+    (fits c)
     (inside c) (at c) c.lower_here-lowered.ensures c.give_back.ensures (agrees c) c.rows_are_of_uploads.ensures.rows
     c.publish_keeps_good.ensures c.nodes_derive.ensures (inside c) (least c)
 
