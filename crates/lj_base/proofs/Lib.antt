@@ -6,4 +6,3 @@ pub mod BinomialTable
 pub mod Choices
 pub mod PointArrays
 pub mod Insertion
-pub mod Inserted

@@ -6,7 +6,6 @@ use Rattle.std.proofs.lemmas.List.Elements.{Contains-get_or}
 use Rattle.std.proofs.lemmas.List.Sums.{sum_by-cons}
 use Rattle.std.specs.List.{AllByRecursion, Contains, flat_map, range_with_len, slice_get}
 use Rattle.std.specs.Prelude.{sum_by}
-pub use Rattle.lj_base.proofs.Ascending.{AllBelow-from_Ascends, Ascends-append, length-sets}
 
 -- ---- what holds of each element
 

@@ -2,17 +2,14 @@
 //! `few_blocks` those of a small one, `script` reads a script from standard input, and `lines` its lines alone.
 #![tactic(auto)]
 
-use lj_base::{Cell, Frame, Sink, Source, StdSink, StdSource};
+use lj_base::{Cell, Frame, MAX_INPUT, Sink, Source, StdSink, StdSource};
 use lj_deriv::{Arena, Part, Plan, Rule};
-use lj_expand::write_blocks;
+use lj_expand::{MAX_EXPANDED, write_blocks};
 use lj_script::read_script;
 use lj_text::{Lines, put, put_number, read_all, write_all};
 use std::alloc::Global;
 use std::process::ExitCode;
 use std::{env, io};
-
-/// The most bytes that are read.
-const MAX_INPUT: u64 = 1 << 26;
 
 fn main(rt: HostRuntime) -> ExitCode {
     let mut input = StdSource::new(rt.reader());
@@ -68,7 +65,7 @@ fn large_plan(alloc: Global) -> Option<Plan> {
     arena.plan(alloc, root).ok()
 }
 
-// The same of 5 points, by the pairs of 3 beside the pair of 2: 3 blocks.
+// A covering of the pairs of 5 points by the pairs of 3 beside the pair of 2: 3 blocks.
 fn small_plan(alloc: Global) -> Option<Plan> {
     let mut arena = Arena::new(alloc, Frame::new(Cell { v: 5, k: 4, t: 2 }));
     arena.reserve(3).ok()?;
@@ -96,7 +93,7 @@ fn small_plan(alloc: Global) -> Option<Plan> {
 
 // The lines of the plan's blocks.
 fn blocks(alloc: Global, plan: Plan) -> Option<Vec<u8>> {
-    if plan.cost() > 1_000_000 || plan.cell().k == 0 {
+    if plan.cost() > MAX_EXPANDED || plan.cell().k == 0 {
         return None;
     }
     let mut text = Vec::new(alloc);
@@ -108,17 +105,17 @@ fn blocks(alloc: Global, plan: Plan) -> Option<Vec<u8>> {
 fn script<S: Source>(alloc: Global, input: &mut S) -> Option<Vec<u8>> {
     let bytes = read_all(alloc, input, MAX_INPUT).ok()?;
     let script = read_script(alloc, &bytes).ok()?;
-    told(alloc, b"sections ", script.sections().len() as u64)
+    line(alloc, b"sections ", script.sections().len() as u64)
 }
 
 // The number of lines of a text.
 fn lines<S: Source>(alloc: Global, input: &mut S) -> Option<Vec<u8>> {
     let bytes = read_all(alloc, input, MAX_INPUT).ok()?;
-    told(alloc, b"lines ", Lines::of(&bytes).count() as u64)
+    line(alloc, b"lines ", Lines::of(&bytes).count() as u64)
 }
 
 // A line of a word and a number.
-fn told(alloc: Global, word: &[u8], n: u64) -> Option<Vec<u8>> {
+fn line(alloc: Global, word: &[u8], n: u64) -> Option<Vec<u8>> {
     let mut text = Vec::new(alloc);
     put(&mut text, word).ok()?;
     put_number(&mut text, n).ok()?;

@@ -1,85 +1,77 @@
--- How a run ends whose input was read whole and whose text is known.
-use Rattle.std.proofs.Common.{◌≡◌, ◌∙◌, ℕ, ◌≤◌, ◌^◌, List, [], ◌∷◌, Option, None, Some, IfSome, get_or, length, refl, sym, ap, subst, arith, inl, inr, ⊎_elim}
+-- What follows from the way in which a check ends.
+use Rattle.std.proofs.Common.{◌≡◌, ◌⊎◌, ◌∙◌, ℕ, ◌≤◌, ◌<◌, List, Option, None, Some, IfSome, length, sym, ap, subst}
+use Rattle.std.proofs.Common.{arith}
+use Rattle.std.proofs.Common.{◌++◌, append-nil, inl, inr, length-append}
 use Rattle.std.proofs.lemmas.Option.{IfSome_then}
-use Rattle.lj_base.specs.Cells.{Triple}
-use Rattle.lj_base.specs.Streams.{IsAtEnd}
-use Rattle.lj_verify.specs.declared.refusals.Refusal.TheVariants.{Blocks, TSets, Marks, Uncovered, Memory}
-use Rattle.lj_cli.specs.CheckOutput.{IsCheckOutput}
-use Rattle.lj_cli.specs.Ends.{Ends, IsAnswer, Prints, Seen}
-use Rattle.lj_cli.specs.Given.{Gift}
-use Rattle.lj_cli.specs.GoodWords.{GoodWords}
-use Rattle.lj_cli.specs.Verdicts.{verdict_status}
-use Rattle.lj_cli.specs.declared.verdicts.Verdict.{Verdict}
-use Rattle.lj_cli.specs.declared.verdicts.Verdict.TheVariants.{Fault, Refused, Covered}
-use Rattle.lj_cli.specs.declared.words.CheckCall.{CheckCall}
+use Rattle.lj_base.specs.Streams.{Appends, Consumes, IsAtEnd, Rose}
+use Rattle.lj_base.specs.declared.limits.TheConstants.{MAX_INPUT}
+use Rattle.lj_cli.specs.Ends.{Ends, HasOutput, Input, Output, Prints, too_large_text}
+use Rattle.lj_cli.specs.declared.status.TheConstants.{NO_MEMORY, TOO_LARGE}
 
-answer-small : (n : ℕ) → IsAnswer n → n ≤ 3
-answer-small n (inl e) = omega (arith, e)
-answer-small n (inr (inl e)) = omega (arith, e)
-answer-small n (inr (inr e)) = omega (arith, e)
+-- no write failed: the text was printed with its status
+printed : (o : Output) (text : List ℕ) (status ended : ℕ) → Prints o text status ended
+    → (Rose o.faults o.faults_now → ⊥) → (ended ≡ status) × Appends o.written o.written_now text
+printed o text status ended (inl h) calm = (h.0, h.1)
+printed o text status ended (inr h) calm = absurd (calm h.1)
 
-pub status-answer : (verdict : Verdict) → IsAnswer (verdict_status verdict)
-status-answer (Fault fault) = inr (inr refl)
-status-answer (Refused (Uncovered s)) = inr (inl refl)
-status-answer (Refused (Blocks n)) = inr (inr refl)
-status-answer (Refused (TSets n)) = inr (inr refl)
-status-answer (Refused (Marks n)) = inr (inr refl)
-status-answer (Refused Memory) = inr (inr refl)
-status-answer (Covered blocks) = inl refl
+-- a source that is at its end gave all that it had
+whole_is : (a b : Option (List ℕ)) (bs : List ℕ) → Consumes a b bs → IsAtEnd b → IfSome a (λ all. bs ≡ all)
+whole_is None b bs h end = tt
+whole_is (Some xs) None bs h end = absurd h
+whole_is (Some xs) (Some ys) bs h end = sym (h ∙ ap (λ l. bs ++ l) end ∙ append-nil bs)
 
-pub ends-printed : (output : List ℕ → List ℕ → ℕ → Type 0) (s : Seen) (bytes text : List ℕ) (status answer : ℕ)
-    → IfSome s.left (λ all. bytes ≡ all) → IsAtEnd s.left_now → length bytes ≤ 2 ^ 26 → s.reads_now ≡ s.reads → output bytes text status → IsAnswer status
-    → Prints s.written s.written_now s.writes s.writes_now text status answer → Ends output s answer
-ends-printed output s bytes text status answer whole done within quiet says small (inl (e, appends, silent)) =
-    let answered : IsAnswer answer = subst (λ n. IsAnswer n) (sym e) small in
-    let low = answer-small answer answered in
-    record {
-      known = inl answered;
-      answered = λ _. IfSome_then s.left whole (λ all is. (text, subst (λ n. output all text n) (sym e) (subst (λ b. output b text status) is says), appends));
-      whole = λ _. done;
-      within = λ _. IfSome_then s.left whole (λ all is. subst (λ b. length b ≤ 2 ^ 26) is within);
-      no_read_failed = λ _. quiet;
-      no_write_failed = λ _. silent;
-      read_failed = λ four. absurd (omega (arith, low, four));
-      write_failed = λ five. absurd (omega (arith, low, five));
-      front = λ five. absurd (omega (arith, low, five));
-      too_large = λ six. absurd (omega (arith, low, six));
-      nothing = λ either. absurd (⊎_elim (λ four. omega (arith, low, four)) (λ seven. omega (arith, low, seven)) either);
-      told = IfSome_then s.left whole (λ all is large _. absurd (omega (arith, large, subst (λ b. length b ≤ 2 ^ 26) is within)));
-      complete = IfSome_then s.left whole (λ all is _ _ _. inl answered);
-    }
-ends-printed output s bytes text status answer whole done within quiet says small (inr (five, rose, n, part, appends)) =
-    let none : IsAnswer answer → ⊥ = λ answered. omega (arith, five, answer-small answer answered) in
-    record {
-      known = inr (inr (inl five));
-      answered = λ a. absurd (none a);
-      whole = λ a. absurd (none a);
-      within = λ a. absurd (none a);
-      no_read_failed = λ a. absurd (none a);
-      no_write_failed = λ a. absurd (none a);
-      read_failed = λ four. absurd (omega (arith, four, five));
-      write_failed = λ _. rose;
-      front = λ _. IfSome_then s.left whole (λ all is. (text, n, inl (status, subst (λ b. length b ≤ 2 ^ 26) is within, subst (λ b. output b text status) is says), part, appends));
-      too_large = λ six. absurd (omega (arith, six, five));
-      nothing = λ either. absurd (⊎_elim (λ four. omega (arith, five, four)) (λ seven. omega (arith, five, seven)) either);
-      told = IfSome_then s.left whole (λ all is large _. absurd (omega (arith, large, subst (λ b. length b ≤ 2 ^ 26) is within)));
-      complete = IfSome_then s.left whole (λ all is _ _ calm. absurd (calm rose));
-    }
+-- what was read is no more than there was
+front_is : (a b : Option (List ℕ)) (bs : List ℕ) → Consumes a b bs → IfSome a (λ all. length bs ≤ length all)
+front_is None b bs h = tt
+front_is (Some xs) None bs h = absurd h
+front_is (Some xs) (Some ys) bs h = let e = ap length h in omega (arith, e, length-append bs ys)
 
-abbrev given : Gift → Option Gift → Gift
-given other None = other
-given other (Some g) = g
+everywhere : (o : Option (List ℕ)) (P : List ℕ → Type 0) → ((x : List ℕ) → P x) → IfSome o P
+everywhere None P f = tt
+everywhere (Some x) P f = f x
 
--- words that call for two checks call for the same cell
-pub same_cell : (words : List (List ℕ)) (c d : CheckCall) → GoodWords words c → GoodWords words d → c.cell ≡ d.cell
-same_cell [] c d good also = absurd good
-same_cell (name ∷ words) c d (g, e, _, call) (h, f, _, asks) =
-    let same : g ≡ h = ap (given g) (sym e ∙ f) in
-    let numbers = sym call.0 ∙ ap (λ (x : Gift). x.numbers) same ∙ asks.0 in
-    let v : c.cell.v ≡ d.cell.v = ap (λ ns. get_or ns 0 0) numbers in
-    let k : c.cell.k ≡ d.cell.k = ap (λ ns. get_or ns 1 0) numbers in
-    let t : c.cell.t ≡ d.cell.t = ap (λ ns. get_or ns 2 0) numbers in
-    λ i. record { v = v i; k = k i; t = t i }
+-- an input within the limit has its output, unless memory runs out
+abbrev SmallEnds : (List ℕ → List ℕ → ℕ → Type 0) → Input → Output → ℕ → List ℕ → Type 0
+SmallEnds output i o ended all = length all ≤ MAX_INPUT → (Rose i.faults i.faults_now → ⊥)
+    → (Rose o.faults o.faults_now → ⊥) → HasOutput output all o ended ⊎ (ended ≡ NO_MEMORY)
 
-pub ends-same : {s : Seen} {n : ℕ} (c d : Triple) → c ≡ d → Ends (IsCheckOutput c) s n → Ends (IsCheckOutput d) s n
-ends-same {s} {n} c d same ends = subst (λ cell. Ends (IsCheckOutput cell) s n) same ends
+pub small : (output : List ℕ → List ℕ → ℕ → Type 0) (i : Input) (o : Output) (ended : ℕ) → Ends output i o ended
+    → IfSome i.left (SmallEnds output i o ended)
+small output i o ended (inl h) =
+    IfSome_then i.left (whole_is i.left i.left_now h.bytes h.read.taken h.at_end) (λ all is few quiet calm.
+    let done = printed o h.text h.status ended h.printed calm in
+    inl (
+      h.text,
+      subst (λ b. output b h.text ended) is
+          (subst (λ n. output h.bytes h.text n) (sym done.0) h.says),
+      done.1,
+    ))
+small output i o ended (inr (inl h)) =
+    let over = h.read.more in
+    IfSome_then i.left (front_is i.left i.left_now h.read.bytes h.read.read.taken)
+    (λ all more few quiet calm. absurd (omega (arith, over, more, few)))
+small output i o ended (inr (inr (inl h))) =
+    everywhere i.left (SmallEnds output i o ended) (λ all few quiet calm. absurd (quiet h.failed))
+small output i o ended (inr (inr (inr h))) =
+    everywhere i.left (SmallEnds output i o ended) (λ all few quiet calm. inr h.status)
+
+-- a larger input is refused, unless memory runs out
+abbrev LargeEnds : Input → Output → ℕ → List ℕ → Type 0
+LargeEnds i o ended all = MAX_INPUT < length all → (Rose i.faults i.faults_now → ⊥)
+    → (Rose o.faults o.faults_now → ⊥)
+    → ((ended ≡ TOO_LARGE) × Appends o.written o.written_now too_large_text) ⊎ (ended ≡ NO_MEMORY)
+
+pub large : (output : List ℕ → List ℕ → ℕ → Type 0) (i : Input) (o : Output) (ended : ℕ) → Ends output i o ended
+    → IfSome i.left (LargeEnds i o ended)
+large output i o ended (inl h) =
+    let within = h.read.within in
+    IfSome_then i.left (whole_is i.left i.left_now h.bytes h.read.taken h.at_end) (λ all is more quiet calm.
+    let count : length h.bytes ≡ length all = ap length is in
+    absurd (omega (arith, more, within, count)))
+large output i o ended (inr (inl h)) =
+    everywhere i.left (LargeEnds i o ended)
+    (λ all more quiet calm. inl (printed o too_large_text TOO_LARGE ended h.printed calm))
+large output i o ended (inr (inr (inl h))) =
+    everywhere i.left (LargeEnds i o ended) (λ all more quiet calm. absurd (quiet h.failed))
+large output i o ended (inr (inr (inr h))) =
+    everywhere i.left (LargeEnds i o ended) (λ all more quiet calm. inr h.status)

@@ -1,12 +1,13 @@
--- What the words behind a command's name give: numbers, values of --workers, and flags.
-use Rattle.std.specs.Prelude.{ℕ, ◌+◌, ◌≤◌, if◌then◌else◌, nat_eq, List, [], ◌∷◌, ◌++◌, Option, None, Some, length, drop, codes}
+-- What the words after a command's name give: numbers, values of --workers, and flags.
+use Rattle.std.specs.Prelude.{ℕ, ◌+◌, ◌≤◌, if◌then◌else◌, nat_eq, List, [], ◌∷◌, ◌++◌, Option, None, Some, length, drop}
+use Rattle.std.specs.Prelude.{codes}
 use Rattle.std.specs.List.{starts_with}
 use Rattle.std.specs.Str.{bytes_eq}
 use Rattle.lj_text.specs.Numbers.{number_of}
 use Rattle.lj_cli.specs.declared.given.Kind.{Kind}
 use Rattle.lj_cli.specs.declared.given.Kind.TheVariants.{End, Workers, WorkersValue, Json, Unknown, Positional}
 
--- the positional words, which are numbers; the values of --workers; how often --json stands
+-- the positional words, which are numbers; the values of --workers; how often --json occurs
 pub record Gift : Type 0 where
   pub numbers : List ℕ
   pub workers : List ℕ
@@ -37,13 +38,13 @@ abbrev pub with_json : Option Gift → Option Gift
 with_json None = None
 with_json (Some g) = Some (record g { json = g.json + 1 })
 
--- behind the word -- each word is a number
+-- after the word -- each word is a number
 abbrev pub all_numbers : List (List ℕ) → Option Gift
 all_numbers [] = Some nothing
 all_numbers (word ∷ words) = with_number (number_of word) (all_numbers words)
 
--- what a word of this kind gives: `numbers` where each word behind it is one, `rest` where those are read as before,
--- and `valued` where the next word is its value
+-- what a word of this kind gives: `numbers` where each word after it is a number, `rest` where those are read as
+-- before, and `valued` where the next word is its value
 abbrev pub word_gives : Kind → List ℕ → Option Gift → Option Gift → Option Gift → Option Gift
 word_gives End word numbers rest valued = numbers
 word_gives Workers word numbers rest valued = valued
@@ -57,7 +58,8 @@ abbrev pub given_by : List (List ℕ) → Option Gift
 given_by [] = Some nothing
 given_by (word ∷ []) = word_gives (kind_of word) word (Some nothing) (Some nothing) None
 given_by (word ∷ (next ∷ words)) =
-    word_gives (kind_of word) word (all_numbers (next ∷ words)) (given_by (next ∷ words)) (with_workers (number_of next) (given_by words))
+    word_gives (kind_of word) word (all_numbers (next ∷ words)) (given_by (next ∷ words))
+    (with_workers (number_of next) (given_by words))
 
 -- no command takes more
 abbrev pub IsFew : Gift → Type 0
@@ -66,4 +68,8 @@ IsFew g = (length g.numbers ≤ 3) × (length g.workers ≤ 1) × (g.json ≤ 1)
 -- what was given before, and what comes
 abbrev pub joined : Gift → Option Gift → Option Gift
 joined g None = None
-joined g (Some h) = Some (record { numbers = g.numbers ++ h.numbers; workers = g.workers ++ h.workers; json = g.json + h.json })
+joined g (Some h) = Some (record {
+  numbers = g.numbers ++ h.numbers;
+  workers = g.workers ++ h.workers;
+  json = g.json + h.json;
+})

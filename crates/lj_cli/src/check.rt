@@ -1,20 +1,18 @@
 ghost use Rattle.std.specs.Prelude.{◌≤◌, IfOk};
 ghost use Rattle.lj_cli.specs.CheckOutput.{IsCheckOutput, IsVerdict};
-ghost use Rattle.lj_cli.specs.Ends.{Ends};
+ghost use Rattle.lj_cli.specs.Ends.{Ends, input_of, output_of};
 
-use crate::ends::{NO_MEMORY, READ_FAILED, print, print_too_large};
+use crate::prints::{print, print_too_large};
+use crate::status::{NO_MEMORY, READ_FAILED};
 use crate::verdicts::Verdict;
-use lj_base::{Cell, Memory, Sink, Source};
+use lj_base::{Cell, MAX_INPUT, Memory, Sink, Source};
 use lj_blockfile::{BodyFault, read_blocks};
 use lj_text::{ReadFail, read_all};
-use lj_verify::{Refusal, check};
+use lj_verify::{MAX_WORKERS, Refusal, check};
 use std::alloc::Global;
 use std::thread::Threads;
 
-/// The most bytes of an input.
-const MAX_INPUT: u64 = 1 << 26;
-
-/// Reads blocks from `input` and prints to `out` whether they cover the cell. Answers the status.
+/// Reads blocks from `input` and prints to `out` whether they cover the cell. Returns the status.
 pub fn check_run<R: Threads + Sync, S: Source, K: Sink>(
     rt: &R,
     alloc: Global,
@@ -25,17 +23,9 @@ pub fn check_run<R: Threads + Sync, S: Source, K: Sink>(
 ) -> u8
     requires some_points { 1 ≤ cell.k }
     requires some_workers { 1 ≤ workers }
-    requires few_workers { workers ≤ 64 }
-    ensures { Ends (IsCheckOutput cell) (record {
-      left = S.left input.old;
-      left_now = S.left input.new;
-      reads = S.faults input.old;
-      reads_now = S.faults input.new;
-      written = K.written out.old;
-      written_now = K.written out.new;
-      writes = K.faults out.old;
-      writes_now = K.faults out.new;
-    }) result }
+    requires few_workers { workers ≤ MAX_WORKERS }
+    ensures { Ends (IsCheckOutput cell) (input_of S.left S.faults input.old input.new)
+        (output_of K.written K.faults out.old out.new) result }
 {
     let bytes = match read_all(alloc, input, MAX_INPUT) {
         Ok(bytes) => bytes,
@@ -52,7 +42,7 @@ pub fn check_run<R: Threads + Sync, S: Source, K: Sink>(
     }
 }
 
-// What the check says of the bytes.
+// What holds of the bytes.
 fn verdict<R: Threads + Sync>(
     rt: &R,
     alloc: Global,
@@ -62,7 +52,7 @@ fn verdict<R: Threads + Sync>(
 ) -> Result<Verdict, Memory>
     requires some_points { 1 ≤ cell.k }
     requires some_workers { 1 ≤ workers }
-    requires few_workers { workers ≤ 64 }
+    requires few_workers { workers ≤ MAX_WORKERS }
     ensures { IfOk result (IsVerdict cell bytes.now) }
 {
     let blocks = match read_blocks(alloc, bytes, cell.v as u64, cell.k as u64) {

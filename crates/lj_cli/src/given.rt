@@ -1,4 +1,5 @@
-ghost use Rattle.std.specs.Prelude.{◌≡◌, ◌⊎◌, ℕ, ◌+◌, ◌<◌, ◌≤◌, if◌then◌else◌, [], ◌∷◌, ◌++◌, None, Some, drop, length, IfNone, IfSome};
+ghost use Rattle.std.specs.Prelude.{◌≡◌, ◌⊎◌, ℕ, ◌+◌, ◌<◌, ◌≤◌, if◌then◌else◌, [], ◌∷◌, ◌++◌, None, Some, drop, length};
+ghost use Rattle.std.specs.Prelude.{IfNone, IfSome};
 ghost use Rattle.std.specs.Option.{option_to_list};
 ghost use Rattle.lj_cli.specs.Given.{IsFew, all_numbers, given_by, joined, kind_of, nothing};
 ghost use Rattle.lj_cli.specs.GoodWords.{texts};
@@ -7,7 +8,7 @@ ghost use Rattle.lj_text.specs.Numbers.{number_of};
 use lj_text::number;
 use std::marker::Model;
 
-/// What the words behind a command's name give, as no command takes more than three numbers and each option once.
+/// What the words after a command's name give: no command takes more than three numbers, and each option once.
 #[derive(Debug, Drop)]
 pub struct Given {
     numbers: [u64; 3],
@@ -23,7 +24,11 @@ impl Model for Given {
 
     ghost Value = { Gift };
 
-    ghost view = { λ g. record { numbers = take g.count g.numbers; workers = option_to_list g.workers; json = if g.json then 1 else 0 } };
+    ghost view = { λ g. record {
+      numbers = take g.count g.numbers;
+      workers = option_to_list g.workers;
+      json = if g.json then 1 else 0;
+    } };
 
     ghost invariant = { λ g. g.count ≤ 3 };
 }
@@ -31,11 +36,11 @@ impl Model for Given {
 // What a word is to the words before it.
 #[derive(Clone, Copy, Debug, PartialEq, Eq)]
 pub(crate) enum Kind {
-    /// Each word behind it is positional.
+    /// `--`: each word after it is positional.
     End,
-    /// The next word is the value.
+    /// `--workers`: the next word is the value.
     Workers,
-    /// The value stands behind the `=`.
+    /// `--workers=`: the value is the rest of the word.
     WorkersValue,
     Json,
     Unknown,
@@ -74,7 +79,8 @@ impl Given {
     }
 
     fn add_number(&mut self, word: &[u8]) -> Option<()>
-        ensures some { IfSome result (λ _. (n : ℕ) × (number_of word.now ≡ Some n) × (self.new ≡ record self.old { numbers = self.old.numbers ++ n ∷ [] })) }
+        ensures some { IfSome result (λ _. (n : ℕ) × (number_of word.now ≡ Some n)
+            × (self.new ≡ record self.old { numbers = self.old.numbers ++ n ∷ [] })) }
         ensures none { IfNone result ((number_of word.now ≡ None) ⊎ (length self.old.numbers ≡ 3)) }
     {
         let n = number(word).ok()?;
@@ -87,7 +93,8 @@ impl Given {
     }
 
     fn add_workers(&mut self, word: &[u8]) -> Option<()>
-        ensures some { IfSome result (λ _. (n : ℕ) × (number_of word.now ≡ Some n) × (self.new ≡ record self.old { workers = self.old.workers ++ n ∷ [] })) }
+        ensures some { IfSome result (λ _. (n : ℕ) × (number_of word.now ≡ Some n)
+            × (self.new ≡ record self.old { workers = self.old.workers ++ n ∷ [] })) }
         ensures none { IfNone result ((number_of word.now ≡ None) ⊎ (length self.old.workers ≡ 1)) }
     {
         let n = number(word).ok()?;
@@ -125,12 +132,14 @@ pub fn read_given(words: &[String]) -> Option<Given>
     Some(given)
 }
 
-// Adds what a word gives, with the next one if that is its value, or with all behind it where it ends the options.
-// Answers how many words behind it that took.
+// Adds what a word gives, with the next one if that is its value, or with all after it where it ends the options.
+// Returns how many of the words after it were taken.
 fn add_first(given: &mut Given, word: &[u8], rest: &[String]) -> Option<usize>
     ensures some { IfSome result (λ n. (n ≤ length rest.now)
-        × (joined given.old (given_by (word.now ∷ texts rest.now)) ≡ joined given.new (given_by (texts (drop n rest.now))))) }
-    ensures none { IfNone result (IfSome (joined given.old (given_by (word.now ∷ texts rest.now))) (λ g. IsFew g → ⊥)) }
+        × (joined given.old (given_by (word.now ∷ texts rest.now))
+        ≡ joined given.new (given_by (texts (drop n rest.now))))) }
+    ensures none { IfNone result
+        (IfSome (joined given.old (given_by (word.now ∷ texts rest.now))) (λ g. IsFew g → ⊥)) }
 {
     match kind_of(word) {
         Kind::End => {

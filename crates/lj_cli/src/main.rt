@@ -2,25 +2,28 @@
 #![tactic(auto)]
 
 mod check;
-mod ends;
 mod given;
+mod laws;
+mod prints;
 #[cfg(test)]
 mod rows;
+mod status;
 mod top;
 mod verdicts;
 mod words;
 
 pub use check::check_run;
 pub use given::{Given, read_given};
+pub use laws::{complete_law, words_law};
 use lj_base::{StdSink, StdSource};
+pub use status::{
+    BAD_WORDS, DONE, FAULTY, NO_MEMORY, NO_WORDS, READ_FAILED, TOO_LARGE, UNCOVERED, WRITE_FAILED,
+};
 use std::process::ExitCode;
 use std::{env, io};
 pub use top::ljcr;
 pub use verdicts::Verdict;
 pub use words::{CheckCall, read_words};
-
-/// The status where the words cannot be had.
-const NO_WORDS: u8 = 8;
 
 fn main(rt: HostRuntime) -> ExitCode {
     let Ok(args) = env::args(&rt) else {

@@ -196,7 +196,7 @@ fn faults_of_the_streams_have_their_status(rt: HostRuntime) -> Result<(), Fail> 
     Ok(())
 }
 
-// The same line so many times.
+// The line, `count` times.
 fn repeated(alloc: Global, line: &[u8], count: u64) -> Result<Vec<u8>, Fail> {
     let mut bytes = Vec::new(alloc);
     for _ in 0..count {
@@ -226,7 +226,7 @@ fn limits_hold_to_the_last_block(rt: HostRuntime) -> Result<(), Fail> {
 }
 
 #[test]
-fn an_input_one_byte_too_long_is_told(rt: HostRuntime) -> Result<(), Fail> {
+fn an_input_one_byte_too_long_is_refused(rt: HostRuntime) -> Result<(), Fail> {
     let alloc = rt.alloc();
     let bytes = vec![in alloc; b'\n'; (1 << 26) + 1]?;
     let mut source = MemSource::new(bytes, 1 << 20, Vec::new(alloc));

@@ -1,16 +1,15 @@
-ghost use Rattle.std.specs.Prelude.{};
 ghost use Rattle.lj_cli.specs.CheckOutput.{IsCheckOutput};
-ghost use Rattle.lj_cli.specs.Ends.{Ends, EndsWithUsage};
+ghost use Rattle.lj_cli.specs.Ends.{Ends, EndsWithUsage, input_of, output_of};
 ghost use Rattle.lj_cli.specs.GoodWords.{GoodWords, texts};
 
 use crate::check::check_run;
-use crate::ends::print_usage;
+use crate::prints::print_usage;
 use crate::words::read_words;
 use lj_base::{Sink, Source};
 use std::alloc::Global;
 use std::thread::Threads;
 
-/// Runs what the words behind the program's name call for. Answers the status.
+/// Runs the command that the words after the program's name call for. Returns the status.
 pub fn ljcr<R: Threads + Sync, S: Source, K: Sink>(
     rt: &R,
     alloc: Global,
@@ -18,29 +17,15 @@ pub fn ljcr<R: Threads + Sync, S: Source, K: Sink>(
     input: &mut S,
     out: &mut K,
 ) -> u8
-    // Words that call for a check end as that check ends.
-    ensures good { (call : _) → GoodWords (texts words.now) call → Ends (IsCheckOutput call.cell) (record {
-      left = S.left input.old;
-      left_now = S.left input.new;
-      reads = S.faults input.old;
-      reads_now = S.faults input.new;
-      written = K.written out.old;
-      written_now = K.written out.new;
-      writes = K.faults out.old;
-      writes_now = K.faults out.new;
-    }) result }
+    // Words that call for a check end as a check of that cell ends.
+    ensures check { (call : _) → GoodWords (texts words.now) call →
+        Ends (IsCheckOutput call.cell) (input_of S.left S.faults input.old input.new)
+        (output_of K.written K.faults out.old out.new) result }
 
-    // All other words end with the usage line.
-    ensures bad { ((call : _) → GoodWords (texts words.now) call → ⊥) → EndsWithUsage (record {
-      left = S.left input.old;
-      left_now = S.left input.new;
-      reads = S.faults input.old;
-      reads_now = S.faults input.new;
-      written = K.written out.old;
-      written_now = K.written out.new;
-      writes = K.faults out.old;
-      writes_now = K.faults out.new;
-    }) result }
+    // Words that call for no command end with the usage line.
+    ensures usage { ((call : _) → GoodWords (texts words.now) call → ⊥) →
+        EndsWithUsage (input_of S.left S.faults input.old input.new) (output_of K.written K.faults out.old out.new)
+        result }
 {
     match read_words(words) {
         Some(call) => check_run(rt, alloc, call.cell, call.workers, input, out),

@@ -3,15 +3,16 @@ ghost use Rattle.lj_cli.specs.GoodWords.{GoodWords, IsCheckCall, texts};
 
 use crate::given::{Given, read_given};
 use lj_base::Cell;
+use lj_verify::MAX_WORKERS;
 
-/// Whether the blocks of the input cover the cell is to be checked, by so many workers.
+/// A check whether the blocks of the input cover the cell, by a number of threads.
 #[derive(Clone, Copy, Debug, PartialEq, Eq)]
 pub struct CheckCall {
     pub cell: Cell,
     pub workers: u64,
 }
 
-/// What the words behind the program's name call for.
+/// The command that the words after the program's name call for.
 pub fn read_words(words: &[String]) -> Option<CheckCall>
     ensures good { IfSome result (GoodWords (texts words.now)) }
     ensures bad { IfNone result ((call : _) → GoodWords (texts words.now) call → ⊥) }
@@ -35,7 +36,7 @@ fn check_call(given: &Given) -> Option<CheckCall>
     };
     let cell = Cell::new(*v, *k, *t).ok()?;
     let workers = given.workers().unwrap_or(1);
-    if cell.k >= 1 && 1 <= workers && workers <= 64 && !given.json() {
+    if cell.k >= 1 && 1 <= workers && workers <= MAX_WORKERS && !given.json() {
         Some(CheckCall { cell, workers })
     } else {
         None

@@ -9,8 +9,6 @@ mod numbers;
 mod plans;
 mod renumbering;
 mod rules;
-#[cfg(test)]
-mod tests;
 mod texts;
 
 pub use arena::Arena;

@@ -1,12 +1,12 @@
 ghost use Rattle.std.specs.Prelude.{◌≡◌, ◌+◌, ◌-◌, ◌*◌, ◌<◌, ◌≤◌, ◌⊎◌, IfOk};
 ghost use Rattle.std.specs.List.{range_with_len};
 ghost use Rattle.lj_base.specs.Colex.{sets};
-ghost use Rattle.lj_cover.specs.BlockLists.{ceil_div, one_block, run, run_blocks};
+ghost use Rattle.lj_cover.specs.BlockLists.{one_block, run, run_blocks};
 
 use lj_base::{Block, Cell, Memory, binom};
 use lj_cover::laws::{all_cover, one_covers, runs_cover};
-use lj_cover::{Design, fill};
-use lj_rank::{TSet, next, unrank};
+use lj_cover::{Design, fill, runs_count};
+use lj_rank::{TSet, next, rank_law, unrank};
 use std::alloc::Global;
 
 /// One block, of the first points.
@@ -29,7 +29,7 @@ pub(crate) fn runs_design(alloc: Global, cell: Cell) -> Result<Design, Memory>
     runs_cover();
     let v = u64::from(cell.v);
     let k = u64::from(cell.k);
-    let count = (v + (k - 1)) / k;
+    let count = runs_count(cell);
     let mut blocks = Vec::with_capacity(alloc, count as usize)?;
     for i in 0..count {
         blocks.push_reserved(run_of(v, k, i));
@@ -70,6 +70,7 @@ pub(crate) fn all_design(alloc: Global, cell: Cell) -> Result<Design, Memory>
     ensures { IfOk result (λ design. design ≡ record { cell = cell; blocks = sets cell.v cell.k }) }
 {
     all_cover();
+    rank_law();
     let v = u64::from(cell.v);
     let k = u64::from(cell.k);
     let count = binom(v, k);

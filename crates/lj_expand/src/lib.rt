@@ -10,5 +10,5 @@ mod products;
 mod uses;
 mod write;
 
-pub use expansion::expand_all;
+pub use expansion::{MAX_EXPANDED, expand_all};
 pub use write::write_blocks;

@@ -4,7 +4,7 @@ ghost use Rattle.lj_blockfile.specs.BlockFiles.{blocks_text};
 ghost use Rattle.lj_cover.specs.Derivations.{expand, root_cell, tree_cost};
 ghost use Rattle.lj_deriv.specs.Nodes.{plan_tree};
 
-use crate::expansion::expand_all;
+use crate::expansion::{MAX_EXPANDED, expand_all};
 use lj_base::Memory;
 use lj_blockfile::put_blocks;
 use lj_deriv::Plan;
@@ -12,7 +12,7 @@ use std::alloc::Global;
 
 /// Appends a line for each block of the plan, in the order of its rules.
 pub fn write_blocks(alloc: Global, plan: &Plan, out: &mut Vec<u8>) -> Result<(), Memory>
-    requires few { tree_cost (plan_tree plan.now) ≤ 1000000 }
+    requires few { tree_cost (plan_tree plan.now) ≤ MAX_EXPANDED }
     requires some { 1 ≤ (root_cell (plan_tree plan.now)).k }
     ensures ok { OnOk result (out.new.items ≡ out.old.items ++ blocks_text (expand (plan_tree plan.now))) }
     ensures err { OnErr result (out.new.items ≡ out.old.items) }

@@ -1,5 +1,6 @@
 -- One point at most completes a list to xor 0: the xor of the list itself.
-use Rattle.std.proofs.Common.{◌≡◌, ℕ, zero, suc, ◌-◌, ◌^◌, ◌<◌, ◌≤◌, ◌≢◌, ◌==◌, true, false, cond, List, [], ◌∷◌, ◌++◌, bit_xor, length, refl, sym, ap, ap₂, ◌∙◌, subst, arith, append-nil, ne_eqb, eq-eqb, ⊎_elim}
+use Rattle.std.proofs.Common.{◌≡◌, ℕ, zero, suc, ◌-◌, ◌^◌, ◌<◌, ◌≤◌, ◌≢◌, ◌==◌, true, false, cond, List, [], ◌∷◌, ◌++◌}
+use Rattle.std.proofs.Common.{bit_xor, refl, sym, ap, ap₂, ◌∙◌, arith, append-nil, ne_eqb, eq-eqb, ⊎_elim}
 use Rattle.std.proofs.lemmas.Nat.{xor_lt}
 use Rattle.std.proofs.lemmas.Bool.{cases_lt}
 use Rattle.std.proofs.lemmas.List.Sums.{fold-append}
@@ -19,7 +20,8 @@ module _ (front : List ℕ) (v : ℕ) where
   last = xor_of front
 
   -- the list of the front and a point
-  one_point : (lo : ℕ) → completions (front ++ lo ∷ []) (suc lo) v 0 ≡ cond (xor_of (front ++ lo ∷ []) == 0) ((front ++ lo ∷ []) ∷ []) []
+  one_point : (lo : ℕ)
+      → completions (front ++ lo ∷ []) (suc lo) v 0 ≡ cond (xor_of (front ++ lo ∷ []) == 0) ((front ++ lo ∷ []) ∷ []) []
   one_point lo = ap (λ b. cond (xor_of b == 0) (b ∷ []) []) (append-nil (front ++ lo ∷ []))
 
   with_point : (lo : ℕ) → lo ≡ last → completions (front ++ lo ∷ []) (suc lo) v 0 ≡ (front ++ last ∷ []) ∷ []
@@ -30,36 +32,28 @@ module _ (front : List ℕ) (v : ℕ) where
 
   without_point : (lo : ℕ) → lo ≢ last → completions (front ++ lo ∷ []) (suc lo) v 0 ≡ []
   without_point lo other =
-      let fails : (xor_of (front ++ lo ∷ []) == 0) ≡ false = ne_eqb _ _ (λ h. other (same_from_xor last lo (sym (xor_of-push front lo) ∙ h))) in
+      let fails : (xor_of (front ++ lo ∷ []) == 0) ≡ false = ne_eqb _ _
+      (λ h. other (same_from_xor last lo (sym (xor_of-push front lo) ∙ h))) in
       one_point lo ∙ rw fails refl
 
   pub none_from : (n lo : ℕ) → v - lo ≡ n → ((x : ℕ) → lo ≤ x → x < v → x ≢ last) → completions front lo v 1 ≡ []
   none_from zero lo left other = completions-none front lo v 0 (omega arith)
   none_from (suc n) lo left other =
       completions-step front lo v 0 (omega arith)
-      ∙ ap₂ (λ bs cs. bs ++ cs) (without_point lo (other lo (omega arith) (omega arith))) (none_from n (suc lo) (omega arith) (λ x from. other x (omega arith)))
+      ∙ ap₂ (λ bs cs. bs ++ cs) (without_point lo (other lo (omega arith) (omega arith)))
+      (none_from n (suc lo) (omega arith) (λ x from. other x (omega arith)))
 
   pub one_from : (n lo : ℕ) → v - lo ≡ n → lo ≤ last → last < v → completions front lo v 1 ≡ (front ++ last ∷ []) ∷ []
   one_from zero lo left before below = absurd (omega arith)
   one_from (suc n) lo left before below =
       completions-step front lo v 0 (omega arith)
       ∙ ⊎_elim
-      (λ (h : lo < last). ap₂ (λ bs cs. bs ++ cs) (without_point lo (λ same. omega (arith, same))) (one_from n (suc lo) (omega arith) (omega arith) below))
+      (λ (h : lo < last). ap₂ (λ bs cs. bs ++ cs) (without_point lo (λ same. omega (arith, same)))
+      (one_from n (suc lo) (omega arith) (omega arith) below))
       (λ (h : last ≤ lo).
-      ap₂ (λ bs cs. bs ++ cs) (with_point lo (omega arith)) (none_from n (suc lo) (omega arith) (λ x from under same. omega (arith, same))))
+      ap₂ (λ bs cs. bs ++ cs) (with_point lo (omega arith))
+      (none_from n (suc lo) (omega arith) (λ x from under same. omega (arith, same))))
       (cases_lt lo last)
-
-  pub at_most_one : (lo : ℕ) → length (completions front lo v 1) ≤ 1
-  at_most_one lo =
-      let none = λ (h : (x : ℕ) → lo ≤ x → x < v → x ≢ last). subst (λ bs. length bs ≤ 1) (sym (none_from (v - lo) lo refl h)) (omega arith) in
-      ⊎_elim
-      (λ (h : last < lo). none (λ x from under same. omega (arith, same)))
-      (λ (h : lo ≤ last).
-      ⊎_elim
-      (λ (k : last < v). subst (λ bs. length bs ≤ 1) (sym (one_from (v - lo) lo refl h k)) (omega arith))
-      (λ (k : v ≤ last). none (λ x from under same. omega (arith, same)))
-      (cases_lt last v))
-      (cases_lt last lo)
 
 -- ---- the fourth point of a quadruple
 
@@ -74,4 +68,5 @@ module _ (a b c m : ℕ) (first : a < b) (second : b < c) (below : c < 2 ^ m) wh
   completed above = one_from (a ∷ b ∷ c ∷ []) (2 ^ m) (2 ^ m - suc c) (suc c) refl (omega arith) fourth-below
 
   pub not_completed : fourth ≤ c → completions (a ∷ b ∷ c ∷ []) (suc c) (2 ^ m) 1 ≡ []
-  not_completed under = none_from (a ∷ b ∷ c ∷ []) (2 ^ m) (2 ^ m - suc c) (suc c) refl (λ x from inside same. omega (arith, same))
+  not_completed under =
+      none_from (a ∷ b ∷ c ∷ []) (2 ^ m) (2 ^ m - suc c) (suc c) refl (λ x from inside same. omega (arith, same))

@@ -1,9 +1,13 @@
-mod Choosing
-mod LastPoint
-mod Counts
-mod Powers
-mod Written
-mod PlainLines
-mod Placed
-mod Spelled
-mod Covering
+pub mod Choosing
+pub mod LastPoint
+pub mod Chosen
+pub mod Ordered
+pub mod Members
+pub mod Covering
+pub mod Sums
+pub mod Number
+pub mod Powers
+pub mod PlainLines
+pub mod Placed
+pub mod Written
+pub mod Spelled

@@ -27,11 +27,14 @@ cell_line word c = join_by_space (word ∷ decimal c.v ∷ decimal c.k ∷ decim
 
 -- the lines before the blocks
 abbrev pub head_lines : ℕ → List (List ℕ)
-head_lines v = cell_line (codes "frame") (frame_cell v) ∷ codes "client gen" ∷ cell_line (codes "upload") (upload_cell v) ∷ []
+head_lines v =
+    cell_line (codes "frame") (frame_cell v) ∷ codes "client gen" ∷ cell_line (codes "upload") (upload_cell v) ∷ []
 
--- the lines behind the blocks
+-- the lines after the blocks
 abbrev pub tail_lines : ℕ → List (List ℕ)
-tail_lines v = codes "end" ∷ codes "settle" ∷ cell_line (codes "bound") (upload_cell v) ∷ cell_line (codes "bound") (derived_cell v) ∷ []
+tail_lines v =
+    codes "end" ∷ codes "settle" ∷ cell_line (codes "bound") (upload_cell v) ∷ cell_line (codes "bound")
+    (derived_cell v) ∷ []
 
 -- the script's lines, with the blocks of 2 ^ m points
 abbrev pub gen_lines : ℕ → List (List ℕ)
@@ -48,6 +51,8 @@ gen_value m =
       frame = record { top = frame_cell v };
       clients = record {
         name = codes "gen";
-        commands = Upload (upload_cell v) (blocks_text (gen_blocks m)) ∷ Settle ∷ Bound (upload_cell v) ∷ Bound (derived_cell v) ∷ [];
+        commands =
+            Upload (upload_cell v) (blocks_text (gen_blocks m)) ∷ Settle ∷ Bound (upload_cell v) ∷ Bound
+            (derived_cell v) ∷ [];
       } ∷ [];
     }

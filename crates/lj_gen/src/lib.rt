@@ -5,4 +5,5 @@ mod laws;
 mod quadruples;
 mod scripts;
 
+pub use laws::quadruples_law;
 pub use scripts::gen_script;

@@ -1,15 +1,16 @@
-ghost use Rattle.std.specs.Prelude.{◌≡◌, ◌^◌, ◌≤◌, [], ◌∷◌, ◌++◌, IfOk, OnOk, decimal};
+ghost use Rattle.std.specs.Prelude.{◌≡◌, ◌-◌, ◌*◌, ◌^◌, ◌≤◌, [], ◌∷◌, ◌++◌, IfOk, OnOk, length};
+ghost use Rattle.std.specs.List.{AllPairs};
 ghost use Rattle.lj_base.specs.Blocks.{Covers};
 ghost use Rattle.lj_text.specs.Lines.{with_feeds};
 ghost use Rattle.lj_blockfile.specs.BlockFiles.{AreBlocksOf, blocks_text};
 ghost use Rattle.lj_script.specs.Scripts.{IsScript};
 ghost use Rattle.lj_gen.specs.Generated.{cell_line, gen_text, gen_value, head_lines, tail_lines, upload_cell};
-ghost use Rattle.lj_gen.specs.Quadruples.{gen_blocks};
+ghost use Rattle.lj_gen.specs.Quadruples.{IsLexicographicallyBefore, gen_blocks};
 
-use crate::laws::generated_law;
+use crate::laws::{generated_law, quadruples_law};
 use crate::quadruples::put_quadruples;
 use lj_base::{Cell, Memory};
-use lj_text::{put, put_number};
+use lj_text::{fields_law, put, put_named};
 use std::alloc::Global;
 
 /// The script for `V = 2 ^ m` points: the frame `V K 3` with K the lesser of 6 and V, and one client, which uploads the
@@ -24,14 +25,17 @@ pub fn gen_script(alloc: Global, m: u64) -> Result<Vec<u8>, Memory>
     ensures script { IsScript (gen_text m) (gen_value m) }
     ensures blocks { AreBlocksOf (blocks_text (gen_blocks m)) (2 ^ m) 4 (gen_blocks m) }
 
-    // Each three points are in the block with their xor.
+    // The blocks are in order, as many as stated, and each three points are in the block with their xor.
+    ensures order { AllPairs IsLexicographicallyBefore (gen_blocks m) }
+    ensures number { 24 * length (gen_blocks m) ≡ 2 ^ m * (2 ^ m - 1) * (2 ^ m - 2) }
     ensures covers { Covers (gen_blocks m) (record { v = 2 ^ m; k = 4; t = 3 }) }
 {
     generated_law();
+    quadruples_law();
     script_text(alloc, m)
 }
 
-// The same, by its text alone.
+// The text of the script.
 fn script_text(alloc: Global, m: u64) -> Result<Vec<u8>, Memory>
     requires low { 2 ≤ m }
     requires high { m ≤ 6 }
@@ -68,7 +72,7 @@ fn put_head(v: u8, out: &mut Vec<u8>) -> Result<(), Memory>
     put_cell(b"upload", Cell { v, k: 4, t: 3 }, out)
 }
 
-// Appends the lines behind the blocks.
+// Appends the lines after the blocks.
 fn put_tail(v: u8, out: &mut Vec<u8>) -> Result<(), Memory>
     requires low { 4 ≤ v }
     requires high { v ≤ 99 }
@@ -88,19 +92,13 @@ fn put_tail(v: u8, out: &mut Vec<u8>) -> Result<(), Memory>
 fn put_cell(word: &[u8], cell: Cell, out: &mut Vec<u8>) -> Result<(), Memory>
     ensures { OnOk result (out.new.items ≡ out.old.items ++ (cell_line word.now cell ++ 10 ∷ [])) }
 {
-    put(out, word)?;
-    put_after_space(cell.v, out)?;
-    put_after_space(cell.k, out)?;
-    put_after_space(cell.t, out)?;
+    fields_law();
+    put_named(
+        out,
+        word,
+        &[u64::from(cell.v), u64::from(cell.k), u64::from(cell.t)],
+    )?;
     put(out, b"\n")
-}
-
-// Appends a space and a number.
-fn put_after_space(n: u8, out: &mut Vec<u8>) -> Result<(), Memory>
-    ensures { OnOk result (out.new.items ≡ out.old.items ++ 32 ∷ decimal n) }
-{
-    put(out, b" ")?;
-    put_number(out, u64::from(n))
 }
 
 #[cfg(test)]
@@ -110,8 +108,21 @@ mod tests {
     use lj_script::{Command, read_script};
     use std::test::Fail;
 
-    const EIGHT: &[u8] =
-        b"1 2 3 4\n1 2 5 6\n1 2 7 8\n1 3 5 7\n1 3 6 8\n1 4 5 8\n1 4 6 7\n2 3 5 8\n2 3 6 7\n2 4 5 7\n2 4 6 8\n3 4 5 6\n3 4 7 8\n5 6 7 8\n";
+    const EIGHT: &[u8] = b"1 2 3 4
+1 2 5 6
+1 2 7 8
+1 3 5 7
+1 3 6 8
+1 4 5 8
+1 4 6 7
+2 3 5 8
+2 3 6 7
+2 4 5 7
+2 4 6 8
+3 4 5 6
+3 4 7 8
+5 6 7 8
+";
 
     #[test]
     fn four_points_are_one_block(rt: HostRuntime) -> Result<(), Fail> {
@@ -164,7 +175,7 @@ mod tests {
     }
 
     #[test]
-    fn there_are_so_many_blocks(rt: HostRuntime) -> Result<(), Fail> {
+    fn the_number_of_blocks_is_as_stated(rt: HostRuntime) -> Result<(), Fail> {
         let alloc = rt.alloc();
         assert_eq!(rt; block_lines(alloc, 3)?, 14);
         assert_eq!(rt; block_lines(alloc, 4)?, 140);

@@ -3,7 +3,3 @@ pub mod Order
 pub mod SetList
 pub mod Successor
 pub mod Subsets
-pub mod Ascending
-pub mod Places
-pub mod Counting
-pub mod Listing

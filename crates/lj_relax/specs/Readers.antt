@@ -21,8 +21,8 @@ abbrev pub is_product_reader : Triple → Triple → Bool
 is_product_reader child e = (nat_lt child.v e.v && (nat_le child.k e.k && nat_le child.t e.t))
     && (nat_le (e.t - child.t) (e.k - child.k) && nat_le (e.k - child.k) (e.v - child.v))
 
--- whether a cell of the frame reads the child, from their numbers: by drop, lower or grow; by an induced rule, which also
--- reads the cell itself; or by a product, which add is too
+-- whether a cell of the frame reads the child, from their numbers: by drop, lower or grow; by an induced rule, by which
+-- a cell reads itself too; or by a product, as which add counts
 abbrev pub is_reader : Top → Triple → Triple → Bool
 is_reader frame child e = (has_numbers child (e.v + 1) e.k e.t || has_numbers child e.v e.k (e.t + 1))
     || ((has_numbers child e.v (e.k - 1) e.t && nat_lt e.t e.k)

@@ -12,8 +12,8 @@ use Rattle.lj_relax.specs.Steps.{Snapshot}
 abbrev pub snapshot : Top → Triple → List ℕ → List Row → Snapshot
 snapshot frame c numbers rows = record { cell = c; bounds = at_cell frame numbers; rows = rows }
 
--- a ticket as contracts see it: copies of a table's bounds and nodes, the rows of its cell, and for how many rows it has
--- room
+-- a ticket as contracts see it: copies of a table's bounds and nodes, the rows of its cell, and for how many rows it
+-- has room
 pub record TicketLists : Type 0 where
   pub frame : Top
   pub cell : Triple

@@ -4,7 +4,7 @@ ghost use Rattle.lj_base.specs.Cells.{IsCell, Triple};
 ghost use Rattle.lj_base.specs.Frames.{InFrame, key};
 ghost use Rattle.lj_cover.specs.Instances.{Reads};
 ghost use Rattle.lj_cover.specs.Rules.{triple};
-ghost use Rattle.lj_relax.specs.Readers.{AreReaders, HasNone, IsFirst, IsFirstFactor, IsFactor, readers_from};
+ghost use Rattle.lj_relax.specs.Readers.{AreReaders, HasNone, IsFactor, IsFirst, IsFirstFactor, readers_from};
 
 use crate::tickets::first_cell;
 use lj_base::{Cell, Frame, cells_law, index_order_law};

@@ -48,8 +48,8 @@ impl Model for Ticket {
 }
 
 impl Ticket {
-    /// A ticket of the frame's first cell. Its bounds are the numbers of sets, its node numbers 0, and it has no rows and
-    /// no room for any.
+    /// A ticket of the frame's first cell. Its bounds are the numbers of sets, its node numbers 0, and it has no rows
+    /// and no room for any.
     pub fn new(alloc: Global, frame: Frame) -> Result<Ticket, Memory>
         ensures { IfOk result (λ ticket. ticket ≡ first_ticket frame) }
     {

@@ -6,7 +6,8 @@ ghost use Rattle.lj_report.specs.ReportCells.{IsListed, cells_from, cells_from_t
 use lj_base::{Cell, Frame};
 use std::marker::Model;
 
-/// A walk through the cells that a report of the frame lists, seen as those that are left. Each takes a few comparisons.
+/// A walk through the cells that a report of the frame lists, seen as those that are left. Each takes a few
+/// comparisons.
 #[derive(Drop)]
 pub struct ReportCells {
     frame: Frame,
@@ -52,7 +53,7 @@ impl Iterator for ReportCells {
     }
 }
 
-// The listed cell behind one.
+// The listed cell after one.
 fn after(frame: Frame, c: Cell) -> Option<Cell>
     requires { IsListed frame c }
     ensures listed { IfSome result (IsListed frame) }

@@ -5,16 +5,15 @@ ghost use Rattle.lj_report.specs.Reports.{report_json};
 ghost use Rattle.lj_report.specs.ReportValues.{cell_value, cell_values, report_value};
 
 use crate::cells::ReportCells;
-use crate::text::bound_at;
 use lj_base::{Cell, Frame, Memory};
 use lj_schonheim::schonheim;
 use lj_text::put;
 use serde_json::{Value, json};
 use std::alloc::{AllocError, Global};
 
-/// Appends the report as one line of JSON: an object with the list `cells` of lists `[V,K,T,N,L,O]`, in the order of the
-/// text's lines, and the list `frame`, `[V,K,T]`. O tells whether N and L are equal. It takes memory for the whole text
-/// besides.
+/// Appends the report as one line of JSON: an object with the list `cells` of lists `[V,K,T,N,L,O]`, in the order of
+/// the text's lines, and the list `frame`, `[V,K,T]`. O is whether N and L are equal. It takes memory for the whole
+/// text besides.
 pub fn report_json(
     alloc: Global,
     frame: Frame,
@@ -54,7 +53,7 @@ fn cell_values(alloc: Global, frame: Frame, bounds: &[u64]) -> Result<Vec<Value>
 {
     let mut values = Vec::new(alloc);
     for cell in ReportCells::of(frame) {
-        values.push(cell_value(alloc, cell, bound_at(frame, bounds, cell))?)?;
+        values.push(cell_value(alloc, cell, frame.at_cell(bounds, cell))?)?;
     }
     Ok(values)
 }

@@ -18,7 +18,8 @@ pub fn report_cells_law()
 
 /// Where a listed cell's bound is its lower number, no covering of the cell is smaller.
 pub fn optimal_law()
-    ensures { (f : Top) (c : Triple) (bound : ℕ) (bs : List (List ℕ)) → IsListed f c → bound ≡ lower_number c → Covers bs c → bound ≤ length bs }
+    ensures { (f : Top) (c : Triple) (bound : ℕ) (bs : List (List ℕ)) → IsListed f c → bound ≡ lower_number c
+        → Covers bs c → bound ≤ length bs }
 {
     schonheim_bounds();
 }

@@ -77,7 +77,7 @@ fn json_of(alloc: Global, rt: &impl Abort, frame: Frame, bound: u64) -> Result<V
 }
 
 #[test]
-fn json_tells_where_no_covering_is_smaller(rt: HostRuntime) -> Result<(), Fail> {
+fn json_has_a_flag_where_no_covering_is_smaller(rt: HostRuntime) -> Result<(), Fail> {
     let frame = Frame::new(Cell::new(3, 2, 1)?);
     let equal = json_of(rt.alloc(), &rt, frame, 2)?;
     let line = b"{\"cells\":[[3,2,1,2,2,true]],\"frame\":[3,2,1]}\n";

@@ -5,5 +5,4 @@ pub mod SameItems
 pub mod OneReading
 pub mod Paths
 pub mod Searching
-pub mod Standing
 pub mod Unique

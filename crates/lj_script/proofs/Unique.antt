@@ -5,7 +5,7 @@ use Rattle.std.proofs.lemmas.Slice.Eq.{bytes_eq-Decides}
 use Rattle.std.specs.Str.{bytes_eq}
 use Rattle.lj_base.specs.Cells.{Triple}
 use Rattle.lj_text.specs.Numbers.{number_of}
-use Rattle.lj_script.specs.Scripts.{NamesCell, Says, StartsWith}
+use Rattle.lj_script.specs.LineForms.{NamesCell, Says, StartsWith}
 use Rattle.lj_script.specs.declared.forms.Form.{Form}
 use Rattle.lj_script.specs.declared.forms.Form.TheVariants.{Client, Upload as Offer, UploadFile as OfferFile, Ask}
 use Rattle.lj_script.specs.declared.scripts.Command.TheVariants.{Upload, UploadFile, Bound, Plan, Expand, Settle}
@@ -50,7 +50,8 @@ starts line (Ask (Expand c)) h = (h.v ∷ h.k ∷ h.t ∷ [], h.words_are)
 starts line (Ask Settle) h = ([], h)
 
 -- no line starts with two words
-pub other_start : {a b : List ℕ} {line : List (List ℕ)} → StartsWith a line → StartsWith b line → bytes_eq a b ≡ false → ⊥
+pub other_start : {a b : List ℕ} {line : List (List ℕ)} → StartsWith a line → StartsWith b line
+    → bytes_eq a b ≡ false → ⊥
 other_start {a} {b} {line} h j other =
     let same : a ≡ b = cc (h.1, j.1) in
     both_ways (bytes_eq a b) other ((bytes_eq-Decides a b).1 same)

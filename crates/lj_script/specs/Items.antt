@@ -3,10 +3,14 @@ use Rattle.std.specs.Prelude.{◌≡◌, ℕ, ◌<◌, List, [], ◌∷◌, ◌+
 use Rattle.std.specs.List.{Contains}
 use Rattle.lj_base.specs.Frames.{Top}
 use Rattle.lj_text.specs.declared.lines.Line.{Line}
+use Rattle.lj_text.specs.Tokens.{words}
 use Rattle.lj_script.specs.Values.{SectionValue}
-use Rattle.lj_script.specs.Scripts.{Begins, IsCommand, IsFrameLine, last_commands, words}
+use Rattle.lj_script.specs.LineForms.{IsFrameLine}
+use Rattle.lj_script.specs.Scripts.{Begins, IsCommand}
+use Rattle.lj_script.specs.Faults.{last_commands}
+use Rattle.lj_script.specs.declared.limits.TheConstants.{MAX_CLIENTS, MAX_COMMANDS}
 use Rattle.lj_script.specs.declared.faults.ScriptFault.{ScriptFault}
-use Rattle.lj_script.specs.declared.faults.ScriptFault.TheVariants.{NoFrame, BadLine, BadFrame, Unended, TooManyClients, TooManyCommands, Memory}
+use Rattle.lj_script.specs.declared.faults.ScriptFault.TheVariants.{BadLine, TooManyClients, TooManyCommands, Memory}
 use Rattle.lj_script.specs.declared.forms.Form.TheVariants.{Client}
 use Rattle.lj_script.specs.declared.scripts.Command.{Command}
 
@@ -22,12 +26,13 @@ IsItem bytes (new_command c) lines rest = IsCommand bytes c lines rest
 
 -- there is a section, and the last has room for one command more
 abbrev pub HasRoom : List SectionValue → Type 0
-HasRoom sections = (0 < length sections) × (last_commands sections < 4096)
+HasRoom sections = (0 < length sections) × (last_commands sections < MAX_COMMANDS)
 
--- the item may stand behind these sections, within the limits
-abbrev pub FitsBehind : List SectionValue → Item → Type 0
-FitsBehind sections (new_client name) = (Contains (map (λ s. s.name) sections) name → ⊥) × (length sections < 16)
-FitsBehind sections (new_command c) = HasRoom sections
+-- the item may follow these sections, within the limits
+abbrev pub FitsAfter : List SectionValue → Item → Type 0
+FitsAfter sections (new_client name) =
+    (Contains (map (λ s. s.name) sections) name → ⊥) × (length sections < MAX_CLIENTS)
+FitsAfter sections (new_command c) = HasRoom sections
 
 -- the sections with one command more in the last
 abbrev pub with_command : List SectionValue → Command → List SectionValue
@@ -35,7 +40,7 @@ with_command [] c = []
 with_command (s ∷ []) c = record { name = s.name; commands = s.commands ++ c ∷ [] } ∷ []
 with_command (s ∷ (r ∷ ss)) c = s ∷ with_command (r ∷ ss) c
 
--- the sections with the item behind them
+-- the sections with the item after them
 abbrev pub with_item : List SectionValue → Item → List SectionValue
 with_item sections (new_client name) = sections ++ record { name = name; commands = [] } ∷ []
 with_item sections (new_command c) = with_command sections c
@@ -44,28 +49,22 @@ with_item sections (new_command c) = with_command sections c
 pub record AddsItem (bytes : List ℕ) (lines rest : List Line) (before now : List SectionValue) : Type 0 where
   pub item : Item
   pub is : IsItem bytes item lines rest
-  pub fits : FitsBehind before item
+  pub fits : FitsAfter before item
   pub added : now ≡ with_item before item
 
 -- why a client of this name can't come to the sections at a line
 abbrev pub IsClientFault : List SectionValue → List ℕ → ℕ → ScriptFault → Type 0
 IsClientFault sections name line (BadLine n) = (n ≡ line) × Contains (map (λ s. s.name) sections) name
-IsClientFault sections name line (TooManyClients n) = (n ≡ line) × (length sections ≡ 16) × (Contains (map (λ s. s.name) sections) name → ⊥)
+IsClientFault sections name line (TooManyClients n) =
+    (n ≡ line) × (length sections ≡ MAX_CLIENTS) × (Contains (map (λ s. s.name) sections) name → ⊥)
 IsClientFault sections name line Memory = Unit {0}
-IsClientFault sections name line NoFrame = ⊥
-IsClientFault sections name line (BadFrame n) = ⊥
-IsClientFault sections name line (Unended n) = ⊥
-IsClientFault sections name line (TooManyCommands n) = ⊥
+IsClientFault sections name line fault = ⊥
 
 -- why no command can come to the sections at a line
 abbrev pub IsRoomFault : List SectionValue → ℕ → ScriptFault → Type 0
 IsRoomFault sections line (BadLine n) = (n ≡ line) × (length sections ≡ 0)
-IsRoomFault sections line (TooManyCommands n) = (n ≡ line) × (last_commands sections ≡ 4096)
-IsRoomFault sections line Memory = ⊥
-IsRoomFault sections line NoFrame = ⊥
-IsRoomFault sections line (BadFrame n) = ⊥
-IsRoomFault sections line (Unended n) = ⊥
-IsRoomFault sections line (TooManyClients n) = ⊥
+IsRoomFault sections line (TooManyCommands n) = (n ≡ line) × (last_commands sections ≡ MAX_COMMANDS)
+IsRoomFault sections line fault = ⊥
 
 -- the first line names the frame, and the others follow
 pub record TakesFrame (bytes : List ℕ) (frame : Top) (lines others : List Line) : Type 0 where

@@ -1,3 +1,5 @@
 pub mod Values
+pub mod LineForms
 pub mod Scripts
+pub mod Faults
 pub mod Items

@@ -1,16 +1,18 @@
-ghost use Rattle.std.specs.Prelude.{◌≡◌, ◌⊎◌, ◌↔◌, ◌≤◌, [], ◌∷◌, IfErr, IfNone, IfOk, IfSome, IsTrue, codes, length, slice_range};
+ghost use Rattle.std.specs.Prelude.{◌≡◌, ◌⊎◌, ◌↔◌, ◌≤◌, [], ◌∷◌, IfErr, IfNone, IfOk, IfSome, IsTrue};
+ghost use Rattle.std.specs.Prelude.{codes, length, slice_range};
 ghost use Rattle.std.specs.List.{AllByRecursion};
 ghost use Rattle.lj_text.specs.Lines.{IsLineOf, StandFrom, after_line, line_text};
-ghost use Rattle.lj_script.specs.Scripts.{IsBody, IsEnd, ReachesEnd, words_of};
+ghost use Rattle.lj_text.specs.Tokens.{words_of};
+ghost use Rattle.lj_script.specs.LineForms.{IsEnd};
+ghost use Rattle.lj_script.specs.Scripts.{IsBody, ReachesEnd};
 
 use crate::faults::ScriptFault;
 use crate::forms::is_word;
 use crate::scripts::Body;
-use crate::words::Words;
-use lj_text::{Line, Lines, after_line};
+use lj_text::{Line, Lines, Words, after_line, line_order_law};
 use std::alloc::Global;
 
-// The body of the upload that a line begins. The lines behind it are gone through up to the one that ends it.
+// The body of the upload that a line begins, with the later lines up to the one that ends it taken from `rest`.
 pub(crate) fn read_body(
     alloc: Global,
     bytes: &[u8],
@@ -21,8 +23,10 @@ pub(crate) fn read_body(
     requires rest { StandFrom bytes.now (after_line bytes.now line.now) rest.old }
     ensures body { IfOk result (λ body. IsBody bytes.now line.now rest.old body rest.new) }
     ensures fault { IfErr result (λ fault. (fault ≡ ScriptFault.Memory)
-        ⊎ ((fault ≡ ScriptFault.Unended line.now.number) × AllByRecursion (λ later. IsEnd bytes.now later → ⊥) rest.old)) }
+        ⊎ ((fault ≡ ScriptFault.Unended line.now.number)
+        × AllByRecursion (λ later. IsEnd bytes.now later → ⊥) rest.old)) }
 {
+    line_order_law();
     let Some(end) = find_end(bytes, rest) else {
         return Err(ScriptFault::Unended { line: line.number });
     };
@@ -32,7 +36,7 @@ pub(crate) fn read_body(
     }
 }
 
-// What stands behind a line and before a later one.
+// The bytes after a line and before a later one.
 fn between<'a>(bytes: &'a [u8], line: &Line, later: &Line) -> &'a [u8]
     requires line { IsLineOf bytes.now line.now }
     requires later { IsLineOf bytes.now later.now }
@@ -42,7 +46,7 @@ fn between<'a>(bytes: &'a [u8], line: &Line, later: &Line) -> &'a [u8]
     &bytes[after_line(bytes, line) as usize..later.start as usize]
 }
 
-// Goes up to the first line that ends a body.
+// Takes the lines up to the first that ends a body.
 fn find_end(bytes: &[u8], lines: &mut Lines) -> Option<Line>
     requires { AllByRecursion (IsLineOf bytes.now) lines.old }
     ensures found { IfSome result (λ end. ReachesEnd bytes.now end lines.old lines.new) }

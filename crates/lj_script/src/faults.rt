@@ -6,7 +6,7 @@ pub enum ScriptFault {
     /// The first line that is not blank does not begin with `frame`, or there is none.
     #[error("no frame")]
     NoFrame,
-    /// The line has none of the forms, or may not stand where it does.
+    /// The line has none of the forms, is not allowed at its place, or names a client that there is already.
     #[error("line {line}: bad line")]
     BadLine { line: u64 },
     /// The frame's line does not name a cell with k of 1 or more.
@@ -15,10 +15,10 @@ pub enum ScriptFault {
     /// No `end` follows this upload's line.
     #[error("line {line}: no end")]
     Unended { line: u64 },
-    /// This line begins a seventeenth section.
+    /// This line would begin one client more than [`MAX_CLIENTS`](crate::MAX_CLIENTS).
     #[error("line {line}: too many clients")]
     TooManyClients { line: u64 },
-    /// This line is the 4,097th command of its section.
+    /// This line would begin one command more than [`MAX_COMMANDS`](crate::MAX_COMMANDS) of its client.
     #[error("line {line}: too many commands")]
     TooManyCommands { line: u64 },
     #[error("out of memory")]

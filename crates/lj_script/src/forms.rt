@@ -1,15 +1,15 @@
 ghost use Rattle.std.specs.Prelude.{◌≡◌, ◌↔◌, ℕ, List, [], ◌∷◌, IsTrue, IfNone, IfSome, codes};
 ghost use Rattle.lj_base.specs.Cells.{Triple};
-ghost use Rattle.lj_script.specs.Scripts.{NamesCell, Says, words_of};
+ghost use Rattle.lj_text.specs.Tokens.{words_of};
+ghost use Rattle.lj_script.specs.LineForms.{NamesCell, Says};
 ghost use Rattle.lj_script.specs.declared.forms.Form.{Form};
 
 use crate::scripts::Command;
-use crate::words::Words;
 use lj_base::Cell;
-use lj_text::number;
+use lj_text::{Words, number};
 use lj_upload::Name;
 
-// What a line behind the frame's says. `Ask` is a command of one line.
+// What a line after the frame's says. `Ask` is a command of one line.
 #[derive(Debug, Drop)]
 pub(crate) enum Form {
     Client(Name),
@@ -55,7 +55,7 @@ fn client_form(second: &[u8], mut words: Words) -> Option<Form>
     Name::of(second).map(Form::Client)
 }
 
-// The cell that the words left name: three numbers, with nothing behind them.
+// The cell that the remaining words name: three numbers and nothing else.
 pub(crate) fn rest_cell(mut words: Words) -> Option<Cell>
     ensures some { IfSome result (λ c. (first : List ℕ) → NamesCell first (first ∷ words.entry) c) }
     ensures none { IfNone result ((first : List ℕ) (c : Triple) → NamesCell first (first ∷ words.entry) c → ⊥) }
@@ -64,10 +64,11 @@ pub(crate) fn rest_cell(mut words: Words) -> Option<Cell>
     read_cell(v, words)
 }
 
-// The same, where the first of the numbers was taken.
+// The cell that a number and the remaining words name.
 fn read_cell(v: &[u8], mut words: Words) -> Option<Cell>
     ensures some { IfSome result (λ c. (first : List ℕ) → NamesCell first (first ∷ v.now ∷ words.entry) c) }
-    ensures none { IfNone result ((first : List ℕ) (c : Triple) → NamesCell first (first ∷ v.now ∷ words.entry) c → ⊥) }
+    ensures none { IfNone result ((first : List ℕ) (c : Triple)
+        → NamesCell first (first ∷ v.now ∷ words.entry) c → ⊥) }
 {
     let k = words.next()?;
     let t = words.next()?;
@@ -80,7 +81,8 @@ fn read_cell(v: &[u8], mut words: Words) -> Option<Cell>
 // The cell that three words name.
 fn cell_of(v: &[u8], k: &[u8], t: &[u8]) -> Option<Cell>
     ensures some { IfSome result (λ c. (first : List ℕ) → NamesCell first (first ∷ v.now ∷ k.now ∷ t.now ∷ []) c) }
-    ensures none { IfNone result ((first : List ℕ) (c : Triple) → NamesCell first (first ∷ v.now ∷ k.now ∷ t.now ∷ []) c → ⊥) }
+    ensures none { IfNone result ((first : List ℕ) (c : Triple)
+        → NamesCell first (first ∷ v.now ∷ k.now ∷ t.now ∷ []) c → ⊥) }
 {
     let cell = Cell::new(number(v).ok()?, number(k).ok()?, number(t).ok()?).ok()?;
     (cell.k > 0).then_some(cell)
@@ -88,8 +90,10 @@ fn cell_of(v: &[u8], k: &[u8], t: &[u8]) -> Option<Cell>
 
 // The form of a line of a first word and a cell.
 fn cell_form(first: &[u8], cell: Cell) -> Option<Form>
-    ensures some { IfSome result (λ form. (words : List (List ℕ)) → NamesCell first.now words cell → Says words form) }
-    ensures none { IfNone result ((words : List (List ℕ)) (form : Form) → NamesCell first.now words cell → Says words form → ⊥) }
+    ensures some { IfSome result (λ form. (words : List (List ℕ))
+        → NamesCell first.now words cell → Says words form) }
+    ensures none { IfNone result ((words : List (List ℕ)) (form : Form)
+        → NamesCell first.now words cell → Says words form → ⊥) }
 {
     if is_word(first, b"upload") {
         Some(Form::Upload(cell))

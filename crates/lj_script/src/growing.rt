@@ -1,16 +1,14 @@
 ghost use Rattle.std.specs.Prelude.{◌≡◌, ◌↔◌, ◌≤◌, IfErr, IsTrue, OnOk, length, map};
 ghost use Rattle.std.specs.List.{Contains};
-ghost use Rattle.lj_script.specs.Items.{FitsBehind, HasRoom, IsClientFault, IsRoomFault, new_client, new_command, with_item};
+ghost use Rattle.lj_script.specs.Items.{FitsAfter, HasRoom, IsClientFault, IsRoomFault};
+ghost use Rattle.lj_script.specs.Items.{new_client, new_command, with_item};
 ghost use Rattle.lj_script.specs.Values.{NamesSome};
 
 use crate::faults::ScriptFault;
+use crate::limits::{MAX_CLIENTS, MAX_COMMANDS};
 use crate::scripts::{Command, Commands, Section};
 use lj_upload::Name;
 use std::alloc::Global;
-
-const MAX_CLIENTS: usize = 16;
-
-const MAX_COMMANDS: usize = 4096;
 
 // Begins the section of a client, whose line has this number.
 pub(crate) fn add_client(
@@ -19,8 +17,8 @@ pub(crate) fn add_client(
     name: Name,
     line: u64,
 ) -> Result<(), ScriptFault>
-    requires { length sections.old.items ≤ 16 }
-    ensures added { OnOk result (FitsBehind sections.old.items (new_client name)
+    requires { length sections.old.items ≤ MAX_CLIENTS }
+    ensures added { OnOk result (FitsAfter sections.old.items (new_client name)
         × (sections.new.items ≡ with_item sections.old.items (new_client name))) }
     ensures fault { IfErr result (IsClientFault sections.old.items name line) }
 {

@@ -5,11 +5,14 @@ mod bodies;
 mod faults;
 mod forms;
 mod growing;
+mod laws;
+mod limits;
 mod reading;
 mod scripts;
-mod words;
 
 pub use faults::ScriptFault;
+pub use laws::script_law;
+pub use limits::{MAX_CLIENTS, MAX_COMMANDS};
 pub use reading::read_script;
 pub use scripts::{Body, Command, Commands, Script, Section, Sections};
 

@@ -2,7 +2,8 @@ ghost use Rattle.std.specs.Prelude.{◌≡◌, ◌⊎◌, ◌≤◌, ◌∷◌, 
 ghost use Rattle.std.specs.List.{AllByRecursion};
 ghost use Rattle.lj_text.specs.Lines.{IsLineOf, StandFrom};
 ghost use Rattle.lj_script.specs.Items.{AddsItem, TakesFrame};
-ghost use Rattle.lj_script.specs.Scripts.{IsFaulty, IsFrameFault, IsScript, IsScriptFault};
+ghost use Rattle.lj_script.specs.Faults.{IsFaulty, IsFrameFault, IsScriptFault};
+ghost use Rattle.lj_script.specs.Scripts.{IsScript};
 ghost use Rattle.lj_script.specs.Values.{ScriptValue};
 ghost use Rattle.lj_script.specs.declared.faults.ScriptFault.{ScriptFault};
 
@@ -10,24 +11,27 @@ use crate::bodies::{read_body, text_of};
 use crate::faults::ScriptFault;
 use crate::forms::{Form, form_of, is_word, rest_cell};
 use crate::growing::{add_client, check_room, push_command};
+use crate::laws::script_law;
+use crate::limits::MAX_CLIENTS;
 use crate::scripts::{Command, Script, Section, Sections};
-use crate::words::Words;
 use lj_base::Frame;
-use lj_text::{Line, Lines};
+use lj_text::{Line, Lines, Words, line_order_law};
 use std::alloc::Global;
 
 /// Reads a script: a line `frame V K T`, and for each client a line `client NAME` and its commands. The first line
 /// with a fault decides. It goes over the bytes a few times, and copies each upload's body once.
 pub fn read_script(alloc: Global, bytes: &[u8]) -> Result<Script, ScriptFault>
     ensures script { IfOk result (IsScript bytes.now) }
-    ensures fault { IfErr result (IsScriptFault bytes.now) }
+    ensures fault { IfErr result (λ fault. (fault ≡ ScriptFault.Memory) ⊎ IsScriptFault bytes.now fault) }
 
-    // Bytes spell one script or have one fault, and it is told, unless memory is wanting.
+    // The script that the bytes spell is returned, or the fault that they have, unless memory runs out.
     ensures complete { (script : ScriptValue) → IsScript bytes.now script
         → MatchResult result (λ read. read ≡ script) (λ fault. fault ≡ ScriptFault.Memory) }
-    ensures exact { (fault : ScriptFault) → IsScriptFault bytes.now fault → (fault ≡ ScriptFault.Memory → ⊥)
-        → MatchResult result (λ _. ⊥) (λ told. (told ≡ fault) ⊎ (told ≡ ScriptFault.Memory)) }
+    ensures exact { (fault : ScriptFault) → IsScriptFault bytes.now fault
+        → MatchResult result (λ _. ⊥) (λ found. (found ≡ fault) ⊎ (found ≡ ScriptFault.Memory)) }
 {
+    script_law();
+    line_order_law();
     let mut lines = Lines::of(bytes);
     let frame = read_frame(bytes, &mut lines)?;
     let mut sections = Vec::new(alloc);
@@ -69,9 +73,11 @@ fn read_item(
     sections: &mut Vec<Section>,
 ) -> Result<(), ScriptFault>
     requires lines { StandFrom bytes.now 0 (line.now ∷ rest.old) }
-    requires few { length sections.old.items ≤ 16 }
-    ensures item { OnOk result (AddsItem bytes.now (line.now ∷ rest.old) rest.new sections.old.items sections.new.items) }
-    ensures fault { IfErr result (λ fault. (fault ≡ ScriptFault.Memory) ⊎ IsFaulty bytes.now sections.old.items line.now rest.old fault) }
+    requires few { length sections.old.items ≤ MAX_CLIENTS }
+    ensures item { OnOk result
+        (AddsItem bytes.now (line.now ∷ rest.old) rest.new sections.old.items sections.new.items) }
+    ensures fault { IfErr result (λ fault. (fault ≡ ScriptFault.Memory)
+        ⊎ IsFaulty bytes.now sections.old.items line.now rest.old fault) }
 {
     let number = line.number;
     let Some(form) = form_of(text_of(bytes, line)) else {

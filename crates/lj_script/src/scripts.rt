@@ -1,5 +1,6 @@
 ghost use Rattle.std.specs.Prelude.{◌≡◌, ◌≤◌, ◌<◌, [], ◌∷◌, ◌++◌, length, OnErr, OnOk};
 
+use crate::limits::{MAX_CLIENTS, MAX_COMMANDS};
 use lj_base::{Cell, Frame, Memory};
 use lj_upload::Name;
 use std::marker::Model;
@@ -96,7 +97,7 @@ impl Commands {
     }
 }
 
-/// A client's name, and at most 4,096 commands in which each cell has k of 1 or more.
+/// A client's name, and at most [`MAX_COMMANDS`] commands in which each cell has k of 1 or more.
 #[derive(Debug, Drop)]
 pub struct Section {
     pub name: Name,
@@ -117,17 +118,24 @@ impl Section {
     ghost use Rattle.std.specs.List.{AllByRecursion};
     ghost use Rattle.lj_script.specs.Values.{NamesSome};
 
+    /// The client's name.
+    pub fn name(&self) -> Name
+        ensures { result ≡ self.now.name }
+    {
+        self.name
+    }
+
     /// The commands, with the section's limits.
     pub fn commands(&self) -> &[Command]
         ensures commands { result.now ≡ self.now.commands }
-        ensures few { length result.now ≤ 4096 }
+        ensures few { length result.now ≤ MAX_COMMANDS }
         ensures cells { AllByRecursion NamesSome result.now }
     {
         self.commands.items()
     }
 
     pub(crate) fn push(&mut self, command: Command) -> Result<(), Memory>
-        requires room { length self.old.commands < 4096 }
+        requires room { length self.old.commands < MAX_COMMANDS }
         requires cell { NamesSome command }
         ensures ok { OnOk result (self.new ≡ record self.old { commands = self.old.commands ++ command ∷ [] }) }
         ensures err { OnErr result (self.new ≡ self.old) }
@@ -172,7 +180,7 @@ impl Sections {
     }
 }
 
-/// A frame, and at most 16 sections.
+/// A frame, and at most [`MAX_CLIENTS`] sections.
 #[derive(Debug, Drop)]
 pub struct Script {
     pub frame: Frame,
@@ -182,19 +190,20 @@ pub struct Script {
 impl Model for Script {
     ghost use Rattle.std.specs.Prelude.{◌≤◌, length};
     ghost use Rattle.lj_script.specs.Values.{ScriptValue};
+    ghost use Rattle.lj_script.specs.declared.limits.TheConstants.{MAX_CLIENTS};
 
     ghost Value = { ScriptValue };
 
     ghost view = { λ s. record { frame = s.frame; clients = s.clients } };
 
-    ghost invariant = { λ s. length s.clients ≤ 16 };
+    ghost invariant = { λ s. length s.clients ≤ MAX_CLIENTS };
 }
 
 impl Script {
     /// The sections, with their limit.
     pub fn sections(&self) -> &[Section]
         ensures sections { result.now ≡ self.now.clients }
-        ensures few { length result.now ≤ 16 }
+        ensures few { length result.now ≤ MAX_CLIENTS }
     {
         self.clients.items()
     }

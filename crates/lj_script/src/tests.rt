@@ -1,4 +1,6 @@
-use crate::{Body, Command, Commands, Script, ScriptFault, Section, Sections, read_script};
+use crate::{
+    Body, Command, Commands, Script, ScriptFault, Section, Sections, read_script, script_law,
+};
 use lj_base::{Cell, Frame, Memory};
 use lj_upload::Name;
 use std::alloc::Global;
@@ -31,7 +33,7 @@ fn expect_section(
     name: &[u8],
     commands: &[(&str, [u8; 3], &[u8])],
 ) {
-    assert_eq!(rt; section.name.bytes(), name);
+    assert_eq!(rt; section.name().bytes(), name);
     assert_eq!(rt; section.commands.items().len(), commands.len());
     for (command, want) in section.commands().iter().zip(commands) {
         let (word, cell, body) = parts(command);
@@ -43,6 +45,7 @@ fn expect_section(
 
 #[test]
 fn a_script_is_read_whole(rt: HostRuntime) -> Result<(), Fail> {
+    script_law();
     let ann: [(&str, [u8; 3], &[u8]); 3] = [
         ("upload", [5, 3, 2], b"1 2 3\n"),
         ("settle", [0; 3], b""),
@@ -161,7 +164,7 @@ fn a_script_that_is_cut_off_is_read_or_has_a_fault(rt: HostRuntime) -> Result<()
     Ok(())
 }
 
-// A frame and so many clients with different names.
+// A frame and `count` clients with different names.
 fn clients(alloc: Global, count: u8) -> Result<Vec<u8>, Memory> {
     let mut text = Vec::new(alloc);
     text.extend_from_slice(b"frame 5 3 2\n")?;
@@ -233,7 +236,7 @@ fn a_script_is_put_together_and_taken_apart(rt: HostRuntime) -> Result<(), Fail>
 }
 
 #[test]
-fn faults_are_told(rt: HostRuntime) -> Result<(), Fail> {
+fn each_fault_has_a_text(rt: HostRuntime) -> Result<(), Fail> {
     let rows: [(ScriptFault, &str); 7] = [
         (ScriptFault::NoFrame, "no frame"),
         (ScriptFault::BadLine { line: 2 }, "line 2: bad line"),
@@ -250,8 +253,8 @@ fn faults_are_told(rt: HostRuntime) -> Result<(), Fail> {
         (ScriptFault::Memory, "out of memory"),
     ];
     for (fault, want) in rows {
-        let told = format!(in rt.alloc(); "{fault}")?;
-        assert_eq!(rt; told.as_str(), want);
+        let text = format!(in rt.alloc(); "{fault}")?;
+        assert_eq!(rt; text.as_str(), want);
     }
     Ok(())
 }

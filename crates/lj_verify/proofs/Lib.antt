@@ -1,6 +1,10 @@
 pub mod Choices
 pub mod Search
 pub mod Walks
-pub mod Words
+pub mod BitMarks
+pub mod Shifts
 pub mod Runs
+pub mod Prefixes
+pub mod Shares
 pub mod Whole
+pub mod Outcomes

@@ -1,7 +1,10 @@
+use Rattle.std.proofs.Common.{◌≡◌, sym}
 use Rattle.lj_cli.specs.GoodWords.{texts}
-use Rattle.lj_cli.proofs.Ending.{ends-same, same_cell}
+use Rattle.lj_cli.proofs.Calls.{one_call}
 use Rattle.lj_cli.proofs.top.ljcr.Goals as goal
 
-pub returns-in-Some-clause-good : goal.returns-in-Some-clause-good
-returns-in-Some-clause-good g c call good =
-    ends-same c.in-Some.call.cell call.cell (same_cell (texts c.args.words.now) c.in-Some.call call c.in-Some.ensures.good good) c.check_run.ensures
+pub returns-in-Some-clause-check : goal.returns-in-Some-clause-check
+returns-in-Some-clause-check g c call good =
+    let same : call ≡ c.in-Some.call = sym (one_call
+    (texts c.args.words.now) c.in-Some.call call c.in-Some.ensures.good good) in
+    rw same c.check_run.ensures

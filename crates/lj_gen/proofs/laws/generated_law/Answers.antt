@@ -1,7 +1,7 @@
 use Rattle.std.proofs.Common.{◌^◌, arith}
 use Rattle.lj_gen.specs.Quadruples.{gen_blocks}
-use Rattle.lj_gen.proofs.Counts.{AreBlocks-gen_blocks, few_blocks}
-use Rattle.lj_gen.proofs.Covering.{Covers-gen_blocks}
+use Rattle.lj_gen.proofs.Chosen.{AreBlocks-gen_blocks}
+use Rattle.lj_gen.proofs.Number.{few_blocks}
 use Rattle.lj_gen.proofs.Powers.{pow-high, pow-low}
 use Rattle.lj_gen.proofs.Spelled.{IsReadUpTo-lines}
 use Rattle.lj_gen.proofs.laws.generated_law.Goals as goal
@@ -10,13 +10,12 @@ pub returns-clause-script : goal.returns-clause-script
 returns-clause-script c = λ m low high.
     let some = pow-low m low in
     let small = pow-high m high in
-    IsReadUpTo-lines c.decimal_law.ensures.word c.decimal_law.ensures.value c.tokens_law.ensures.words c.lines_law.ensures.numbers c.lines_law.ensures.places
+    IsReadUpTo-lines c.words_law.ensures.decimal c.decimal_law.ensures.value c.words_law.ensures.words
+    c.words_law.ensures.plain c.lines_law.ensures.places
     (2 ^ m) some (omega (arith, small)) (gen_blocks m) (AreBlocks-gen_blocks m)
 
 pub returns-clause-blocks : goal.returns-clause-blocks
 returns-clause-blocks c = λ m low high.
     let small = pow-high m high in
-    c.written_law.ensures (2 ^ m) 4 (gen_blocks m) (omega arith) (omega (arith, small)) (few_blocks m small) (AreBlocks-gen_blocks m)
-
-pub returns-clause-covers : goal.returns-clause-covers
-returns-clause-covers c = Covers-gen_blocks
+    c.written_law.ensures (2 ^ m) 4 (gen_blocks m) (omega arith) (omega (arith, small)) (few_blocks m small)
+    (AreBlocks-gen_blocks m)

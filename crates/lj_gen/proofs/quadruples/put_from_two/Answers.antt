@@ -12,5 +12,6 @@ loop-c-preserved c =
     let front = c.args.a ∷ c.args.b ∷ [] in
     let is = c.requires.power.1 in
     let more : now ≡ before ++ blocks_text (completions (c.args.a ∷ c.args.b ∷ p ∷ []) (suc p) c.args.v 1) =
-    subst (λ v. now ≡ before ++ blocks_text (completions (c.args.a ∷ c.args.b ∷ p ∷ []) (suc p) v 1)) (sym is) (c.in_ok-put_from_three.ensures c.requires.power.0 (omega (arith, is))) in
+    subst (λ v. now ≡ before ++ blocks_text (completions (c.args.a ∷ c.args.b ∷ p ∷ []) (suc p) v 1)) (sym is)
+    (c.in_ok-put_from_three.ensures c.requires.power.0 (omega (arith, is))) in
     written-step front c.args.v 1 before now _ p (omega arith) c.loop-c.invariant more

@@ -4,4 +4,5 @@ use Rattle.lj_gen.specs.Quadruples.{completions}
 use Rattle.lj_gen.proofs.quadruples.put_quadruples.Given as goal
 
 abbrev pub invariant-loop-a : goal.invariant-loop-a
-invariant-loop-a l = l.out.items ++ blocks_text (completions [] l.a l.v 4) ≡ l.fn.out.items ++ blocks_text (completions [] 0 l.v 4)
+invariant-loop-a l =
+    l.out.items ++ blocks_text (completions [] l.a l.v 4) ≡ l.fn.out.items ++ blocks_text (completions [] 0 l.v 4)

@@ -8,7 +8,8 @@ pub returns-then-t-top-3-clause-rest : goal.returns-then-t-top-3-clause-rest
 returns-then-t-top-3-clause-rest c =
     let t = c.args.t in
     let whole = ap (λ top. let f : Top = record { top = top } in f) c.top.view_is ∙ c.frame.view_is in
-    rw (← whole) (sym (cells_from_t-first _ t (t + 1) (t + 2) c.if-t-top.true (omega arith) (omega arith) (omega arith)))
+    rw (← whole)
+    (sym (cells_from_t-first _ t (t + 1) (t + 2) c.if-t-top.true (omega arith) (omega arith) (omega arith)))
 
 pub returns-then-t-top-3-clause-all : goal.returns-then-t-top-3-clause-all
 returns-then-t-top-3-clause-all c =

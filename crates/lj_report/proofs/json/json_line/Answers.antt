@@ -10,4 +10,5 @@ returns c =
     let value = c.in_ok-report_value.ensures in
     let no_float = ap has_float value ∙ report_has_no_float frame bounds in
     let text = c.in_ok-line.ensures.text no_float ∙ ap compact_text value in
-    c.in_ok-push.ensures.bytes ∙ ap₂ (λ line feed. line ++ feed) text (c.push.ensures.ascii (lit< tt)) ∙ report_json_is frame bounds
+    c.in_ok-push.ensures.bytes ∙ ap₂ (λ line feed. line ++ feed) text (c.push.ensures.ascii (lit< tt))
+    ∙ report_json_is frame bounds

@@ -1,29 +1,40 @@
-use Rattle.std.proofs.Common.{◌≡◌, ℕ, ◌==◌, if◌then◌else◌, List, [], ◌∷◌, ◌++◌, codes, decimal, map, ap, ap₂, ◌∙◌, sym, append_assoc}
+use Rattle.std.proofs.Common.{◌≡◌, ℕ, ◌==◌, if◌then◌else◌, List, [], ◌∷◌, ◌++◌, codes, decimal, map, ap, ap₂, ◌∙◌, sym}
+use Rattle.std.proofs.Common.{append_assoc}
 use Rattle.std.proofs.lemmas.Result.{on_ok_weaker}
-use Rattle.std.specs.List.{flat_map}
 use Rattle.lj_base.specs.Cells.{Triple}
 use Rattle.lj_text.specs.Tokens.{join_by_space}
-use Rattle.lj_report.specs.Reports.{lower_number, report_line, told_numbers}
+use Rattle.lj_report.specs.Reports.{lower_number, report_line, reported_numbers}
 use Rattle.lj_report.proofs.text.append_line.Goals as goal
 
-regroup : (old v k t n lower end : List ℕ) → (((old ++ ((v ++ 32 ∷ []) ++ ((k ++ 32 ∷ []) ++ ((t ++ 32 ∷ []) ++ [])))) ++ (n ++ 32 ∷ [])) ++ lower) ++ end
-    ≡ old ++ ((v ++ 32 ∷ (k ++ 32 ∷ (t ++ 32 ∷ (n ++ 32 ∷ lower)))) ++ end)
-regroup old v k t n lower end = simp append_assoc
-
-line_put : (c : Triple) (n lower : ℕ) (old cell bound numbers end now : List ℕ) → lower ≡ lower_number c → cell ≡ old ++ flat_map (λ m. decimal m ++ 32 ∷ []) (c.v ∷ c.k ∷ c.t ∷ [])
-    → bound ≡ cell ++ (decimal n ++ 32 ∷ []) → numbers ≡ bound ++ decimal lower → end ≡ (if n == lower then codes " optimal" else []) ++ 10 ∷ [] → now ≡ numbers ++ end
+line_put : (c : Triple) (n lower : ℕ) (ns old numbers end now : List ℕ) → lower ≡ lower_number c
+    → ns ≡ c.v ∷ c.k ∷ c.t ∷ n ∷ lower ∷ [] → numbers ≡ old ++ join_by_space (map decimal ns)
+    → end ≡ (if n == lower then codes " optimal" else []) ++ 10 ∷ [] → now ≡ numbers ++ end
     → now ≡ old ++ (report_line c n ++ 10 ∷ [])
-line_put c n lower old cell bound numbers end now lower_is cell_is bound_is numbers_is end_is now_is =
+line_put c n lower ns old numbers end now lower_is ns_are numbers_is end_is now_is =
     let mark = λ (l : ℕ). let m : List ℕ = if n == l then codes " optimal" else [] in m in
-    let line = join_by_space (map decimal (told_numbers c n)) in
+    let line = λ (l : ℕ). join_by_space (map decimal (c.v ∷ c.k ∷ c.t ∷ n ∷ l ∷ [])) in
+    let least = lower_number c in
     now_is
-    ∙ ap₂ (λ xs ys. xs ++ ys) (numbers_is ∙ ap (λ xs. xs ++ decimal lower) (bound_is ∙ ap (λ xs. xs ++ (decimal n ++ 32 ∷ [])) cell_is)) end_is
-    ∙ ap (λ l. (((old ++ flat_map (λ m. decimal m ++ 32 ∷ []) (c.v ∷ c.k ∷ c.t ∷ [])) ++ (decimal n ++ 32 ∷ [])) ++ decimal l) ++ (mark l ++ 10 ∷ [])) lower_is
-    ∙ regroup old (decimal c.v) (decimal c.k) (decimal c.t) (decimal n) (decimal (lower_number c)) (mark (lower_number c) ++ 10 ∷ [])
-    ∙ ap (λ xs. old ++ xs) (sym (append_assoc line (mark (lower_number c)) (10 ∷ [])))
+    ∙ ap₂ (λ xs ys. xs ++ ys) (numbers_is ∙ ap (λ m. old ++ join_by_space (map decimal m)) ns_are) end_is
+    ∙ ap (λ l. (old ++ line l) ++ (mark l ++ 10 ∷ [])) lower_is
+    ∙ append_assoc old (line least) (mark least ++ 10 ∷ [])
+    ∙ ap (λ xs. old ++ xs) (sym (append_assoc (line least) (mark least) (10 ∷ [])))
+
+same_five : (a b c x y z n l : ℕ) → a ≡ x → b ≡ y → c ≡ z → a ∷ b ∷ c ∷ n ∷ l ∷ [] ≡ x ∷ y ∷ z ∷ n ∷ l ∷ []
+same_five a b c x y z n l first second third = cc
 
 pub returns-clause-ok : goal.returns-clause-ok
 returns-clause-ok c =
+    let cell = c.args.cell in
+    let n = c.args.bound in
+    let lower = c.schonheim-lower.result in
+    let ns : List ℕ = c.from.result ∷ c.from-2.result ∷ c.from-3.result ∷ n ∷ lower ∷ [] in
+    let v = c.from.ensures ∙ ap (λ (x : Triple). x.v) c.cell.view_is in
+    let k = c.from-2.ensures ∙ ap (λ (x : Triple). x.k) c.cell.view_is in
+    let t = c.from-3.ensures ∙ ap (λ (x : Triple). x.t) c.cell.view_is in
+    let are = same_five _ _ _ _ _ _ n lower v k t in
     on_ok_weaker c.put.result
-    (line_put c.args.cell c.args.bound c.schonheim-lower.result c.args.out.now.items _ _ _ _ _ c.schonheim-lower.ensures.value c.in_ok-put_cell.ensures.ok c.in_ok-put_spaced.ensures.ok c.in_ok-put_number.ensures.ok c.line_end.ensures)
+    (line_put cell n lower ns c.args.out.now.items _ _ _ c.schonheim-lower.ensures.value are
+    c.in_ok-put_joined.ensures.ok
+    c.line_end.ensures)
     c.put.ensures.ok

@@ -7,4 +7,6 @@ pub returns : goal.returns
 returns c =
     let name = c.args.name.now in
     IsTrue-named c.any.result c.args.sections.now name
-    (cases_from_any _ _ _ (λ s. s.name ≡ name) (λ s. s.name ≡ name → ⊥) c.any.ensures.ran (YieldsList-from_slice c.args.sections.now cc) (λ x q k. search (rules, tests)) (λ x q k. search (rules, tests)))
+    (cases_from_any _ _ _ (λ s. s.name ≡ name) (λ s. s.name ≡ name → ⊥) c.any.ensures.ran
+    (YieldsList-from_slice c.args.sections.now cc) (λ x q k. search (rules, tests))
+    (λ x q k. search (rules, tests)))

@@ -1,0 +1,28 @@
+//! The statuses that the program ends with.
+
+/// A command did what it was called for; of a check, the blocks cover.
+pub const DONE: u8 = 0;
+
+/// A check found a set that no block contains.
+pub const UNCOVERED: u8 = 1;
+
+/// The words call for no command.
+pub const BAD_WORDS: u8 = 2;
+
+/// The input has a fault.
+pub const FAULTY: u8 = 3;
+
+/// Reading failed.
+pub const READ_FAILED: u8 = 4;
+
+/// Writing failed.
+pub const WRITE_FAILED: u8 = 5;
+
+/// The input has more than `MAX_INPUT` bytes.
+pub const TOO_LARGE: u8 = 6;
+
+/// Memory ran out.
+pub const NO_MEMORY: u8 = 7;
+
+/// The system did not give the words, or one of them is no text.
+pub const NO_WORDS: u8 = 8;

@@ -1,5 +1,0 @@
-//! Tests of both checks of a covering: worked values from outside.
-#![tactic(auto)]
-
-#[cfg(test)]
-mod check_rows;

@@ -1,2 +1,0 @@
-pub mod CoverTests
-pub mod CoverExamples

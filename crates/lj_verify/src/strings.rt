@@ -1,0 +1,189 @@
+ghost use Rattle.std.specs.Prelude.{◌≡◌, ◌+◌, ◌*◌, ◌/◌, ◌^◌, ◌<◌, ◌≤◌, length, take};
+ghost use Rattle.lj_base.specs.Blocks.{Ascends};
+ghost use Rattle.lj_base.specs.Colex.{choose};
+ghost use Rattle.lj_verify.specs.Marks.{IsRankAmong, IsRankIn, Marks};
+ghost use Rattle.lj_verify.specs.Strings.{IsStringOf, words_for};
+
+use crate::bits::mark_prefix;
+use crate::laws::set_laws;
+use crate::pairs::{mark_block, mark_points};
+use lj_base::{Block, binom};
+
+// All sets of s points below a point p have the ranks from 0 to binom(p, s) - 1. So the ranks of a block's sets of
+// `size` points, once they stand as a string of bits, serve all its larger sets: for each choice of the greater points,
+// the least of them being p, the first binom(p, size) bits of the string are marked from the rank of that choice on.
+
+/// How many words the strings of one block may take.
+pub(crate) const SCRATCH: usize = 8192;
+
+/// Marks the rank of each set of `t` points that a block contains, in words of which the first has the ranks from
+/// `64 * start` on. Each block's strings are made in `scratch`, or its sets are marked by runs where they do not fit.
+pub(crate) fn mark_by_strings(
+    words: &mut [u64],
+    start: u64,
+    blocks: &[Block],
+    t: u64,
+    size: u64,
+    scratch: &mut [u64],
+)
+    requires some { 1 ≤ size }
+    requires size { size < t }
+    requires small { t ≤ 8 }
+    requires few_words { start + length words.old ≤ 2 ^ 32 }
+    requires few { length scratch.old ≤ 2 ^ 32 }
+    ensures { Marks start words.old words.new (IsRankIn blocks.now t) }
+{
+    for block in blocks {
+        mark_by_string(words, start, block, t, size, scratch);
+    }
+}
+
+// Marks the rank of each set of `t` points of one block.
+fn mark_by_string(
+    words: &mut [u64],
+    start: u64,
+    block: &Block,
+    t: u64,
+    size: u64,
+    scratch: &mut [u64],
+)
+    requires some { 1 ≤ size }
+    requires size { size < t }
+    requires small { t ≤ 8 }
+    requires few_words { start + length words.old ≤ 2 ^ 32 }
+    requires few { length scratch.old ≤ 2 ^ 32 }
+    ensures marks { Marks start words.old words.new (IsRankAmong block.now t 0) }
+    ensures stays { length scratch.new ≡ length scratch.old }
+{
+    set_laws();
+    let len = block.len();
+    if len < t {
+        return;
+    }
+    let v = block.at(len - 1) as u64 + 1;
+    if needs(v, size) > scratch.len() as u64 {
+        return mark_block(words, start, block, t);
+    }
+    make_string(scratch, block, v, size);
+    let string = &scratch[..string_words(v, size) as usize];
+    mark_above(words, start, block, len, t, size, 0, string);
+}
+
+// How many words the string of the sets of `size` points below `v` takes.
+fn string_words(v: u64, size: u64) -> u64
+    requires few_points { v ≤ 99 }
+    requires small { size ≤ 8 }
+    ensures value { result ≡ (choose v size + 63) / 64 }
+    ensures small { result < 2 ^ 38 }
+{
+    binom(v, size).div_ceil(64)
+}
+
+/// How many words the strings of the sets of 1 to `size` points below `v` take.
+pub(crate) fn needs(v: u64, size: u64) -> u64
+    requires few_points { v ≤ 99 }
+    requires small { size ≤ 8 }
+    ensures value { result ≡ words_for v size }
+    ensures small { result ≤ size * 2 ^ 38 }
+{
+    if size == 0 {
+        return 0;
+    }
+    string_words(v, size) + needs(v, size - 1)
+}
+
+// Makes the string of a block's sets of `size` points in the first words, from that of one point less in the words
+// after them.
+fn make_string(scratch: &mut [u64], block: &Block, v: u64, size: u64)
+    requires few_points { v ≤ 99 }
+    requires below { Ascends 0 v block.now }
+    requires some { 1 ≤ size }
+    requires small { size ≤ 8 }
+    requires enough { size ≤ length block.now }
+    requires room { words_for v size ≤ length scratch.old }
+    requires few { length scratch.old ≤ 2 ^ 32 }
+    ensures string { IsStringOf block.now size (take ((choose v size + 63) / 64) scratch.new) }
+    ensures stays { length scratch.new ≡ length scratch.old }
+{
+    let (string, others) = scratch.split_at_mut(string_words(v, size) as usize);
+    string.fill(0);
+    if size == 1 {
+        mark_points(string, 0, block);
+    } else {
+        make_string(others, block, v, size - 1);
+        let lower = &others[..string_words(v, size - 1) as usize];
+        mark_above(string, 0, block, block.len(), size, size - 1, 0, lower);
+    }
+}
+
+// Of the sets of `t` points among the block's first `n`, marks those of a rank in the range: for each choice of all but
+// `size` points those with it, of which the string has the others. `rest` is added to each rank.
+fn mark_above(
+    words: &mut [u64],
+    start: u64,
+    block: &Block,
+    n: u64,
+    t: u64,
+    size: u64,
+    rest: u64,
+    string: &[u64],
+)
+    requires some { 1 ≤ size }
+    requires size { size < t }
+    requires small { t ≤ 8 }
+    requires enough { t ≤ n }
+    requires within { n ≤ length block.now }
+    requires ascends { Ascends 0 99 block.now }
+    requires few_words { start + length words.old ≤ 2 ^ 32 }
+    requires fits { rest + t * 2 ^ 38 ≤ 2 ^ 42 }
+    requires string { IsStringOf block.now size string.now }
+    requires few { length string.now ≤ 2 ^ 32 }
+    ensures { Marks start words.old words.new (IsRankAmong (take n block.now) t rest) }
+{
+    set_laws();
+    if t == size + 1 {
+        return mark_prefixes(words, start, block, n, size, rest, string);
+    }
+    let low = 64 * start;
+    let high = low + 64 * words.len() as u64;
+    for i in t - 1..n {
+        let point = block.at(i) as u64;
+        let least = rest + binom(point, t);
+        if least < high && low < least + binom(point, t - 1) {
+            mark_above(words, start, block, i, t - 1, size, least, string);
+        }
+    }
+}
+
+// Of the sets of `size + 1` points among the block's first `n`, marks those of a rank in the range: for each greatest
+// point a prefix of the string.
+fn mark_prefixes(
+    words: &mut [u64],
+    start: u64,
+    block: &Block,
+    n: u64,
+    size: u64,
+    rest: u64,
+    string: &[u64],
+)
+    requires some { 1 ≤ size }
+    requires small { size < 8 }
+    requires within { n ≤ length block.now }
+    requires ascends { Ascends 0 99 block.now }
+    requires few_words { start + length words.old ≤ 2 ^ 32 }
+    requires fits { rest + 2 * 2 ^ 38 ≤ 2 ^ 42 }
+    requires string { IsStringOf block.now size string.now }
+    requires few { length string.now ≤ 2 ^ 32 }
+    ensures { Marks start words.old words.new (IsRankAmong (take n block.now) (size + 1) rest) }
+{
+    set_laws();
+    let low = 64 * start;
+    let high = low + 64 * words.len() as u64;
+    for i in 0..n {
+        let point = block.at(i) as u64;
+        let least = rest + binom(point, size + 1);
+        if least < high && low < least + binom(point, size) {
+            mark_prefix(words, start, least, string, binom(point, size));
+        }
+    }
+}
