@@ -1,0 +1,4 @@
+pub mod OneOutcome
+pub mod Driving
+pub mod Stepping
+pub mod Accepting

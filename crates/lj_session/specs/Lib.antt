@@ -1,0 +1,9 @@
+pub mod Outcomes
+pub mod ReplyTexts
+pub mod Replies
+pub mod AcceptedUploads
+pub mod BuildReplies
+pub mod Sessions
+pub mod Handling
+pub mod Inside
+pub mod Driving

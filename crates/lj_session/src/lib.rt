@@ -1,0 +1,22 @@
+//! Sessions: the commands of one client, each with its reply, driven by whoever holds the table.
+#![tactic(auto)]
+
+mod asks;
+mod ends;
+mod handling;
+mod laws;
+mod limits;
+mod offers;
+mod outcomes;
+mod own;
+mod reasons;
+mod reply_texts;
+mod sessions;
+mod terms;
+
+pub use asks::Ask;
+pub use ends::{Replies, SessionEnd, Uploads};
+pub use laws::{building_law, one_outcome_law};
+pub use limits::MAX_WRITTEN;
+pub use reasons::Reason;
+pub use sessions::Session;
