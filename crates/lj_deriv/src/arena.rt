@@ -1,4 +1,4 @@
-ghost use Rattle.std.specs.Prelude.{◌≡◌, ℕ, ◌+◌, ◌-◌, ◌<◌, ◌≤◌, [], ◌∷◌, ◌++◌};
+ghost use Rattle.std.specs.Prelude.{◌≡◌, ℕ, ◌+◌, ◌-◌, ◌^◌, ◌<◌, ◌≤◌, [], ◌∷◌, ◌++◌};
 ghost use Rattle.std.specs.Prelude.{length, map, max, slice_index, IfOk, OnErr, OnOk};
 ghost use Rattle.std.specs.List.{AllByRecursion, flat_map};
 ghost use Rattle.lj_base.specs.Frames.{InFrame};
@@ -9,6 +9,7 @@ ghost use Rattle.lj_deriv.specs.Nodes.{IsDerivedIn, node_tree, plan_tree, rule_t
 ghost use Rattle.lj_deriv.specs.Plans.{IsPlanOf};
 ghost use Rattle.lj_deriv.specs.Trees.{children_of, sizes_of, trees_at, trees_of, upload_at};
 ghost use Rattle.lj_deriv.specs.Validity.{AreValid, IsNode, IsValid};
+ghost use Rattle.lj_upload.specs.Uploads.{IsAccepted};
 
 use crate::copying::copy_reached;
 use crate::limits::{MAX_ARENA_UPLOADS, MAX_NODES};
@@ -82,6 +83,8 @@ impl Arena {
         ensures uploads { result.now ≡ self.now.uploads }
         ensures few { length self.now.uploads ≤ MAX_ARENA_UPLOADS }
         ensures covering { AllByRecursion IsCovering self.now.uploads }
+        ensures accepted { AllByRecursion IsAccepted self.now.uploads }
+        ensures ordinals { AllByRecursion (λ u. u.ordinal < 2 ^ 64) self.now.uploads }
         ensures inside { AllByRecursion (λ u. InFrame self.now.frame u.cell) self.now.uploads }
     {
         &self.uploads

@@ -1,4 +1,4 @@
-ghost use Rattle.std.specs.Prelude.{◌≡◌, ℕ, ◌<◌, ◌≤◌, ◌++◌, length, OnErr, OnOk};
+ghost use Rattle.std.specs.Prelude.{◌≡◌, ℕ, ◌^◌, ◌<◌, ◌≤◌, ◌++◌, length, OnErr, OnOk};
 ghost use Rattle.std.specs.List.{AllByRecursion};
 ghost use Rattle.lj_base.specs.Blocks.{Covers};
 ghost use Rattle.lj_cover.specs.Derivations.{IsDerivation, IsFrom, expand, root_cell, tree_cost};
@@ -8,6 +8,7 @@ ghost use Rattle.lj_deriv.specs.Plans.{IsNamed, IsWhole};
 ghost use Rattle.lj_deriv.specs.Texts.{Spelled, plan_text};
 ghost use Rattle.lj_deriv.specs.Trees.{children_of, rule_at, upload_at};
 ghost use Rattle.lj_deriv.specs.Validity.{AreValid, IsNode};
+ghost use Rattle.lj_upload.specs.Uploads.{IsAccepted};
 
 use crate::arena::Arena;
 use crate::numbers::Numbers;
@@ -114,10 +115,12 @@ impl Plan {
         self.arena.cost(i)
     }
 
-    /// The uploads that its rules name, each once.
+    /// The uploads that its rules name. Each is named by a rule of a node.
     pub fn uploads(&self) -> &[Accepted]
         ensures uploads { result.now ≡ self.now.uploads }
         ensures covering { AllByRecursion IsCovering self.now.uploads }
+        ensures accepted { AllByRecursion IsAccepted self.now.uploads }
+        ensures ordinals { AllByRecursion (λ u. u.ordinal < 2 ^ 64) self.now.uploads }
         ensures named { (u : ℕ) → u < length self.now.uploads → IsNamed self.now u }
     {
         self.arena.uploads()
