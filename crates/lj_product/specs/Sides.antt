@@ -3,7 +3,7 @@ use Rattle.std.specs.Prelude.{◌≡◌, ℕ, ◌+◌, ◌-◌, ◌*◌, ◌^◌
 use Rattle.lj_base.specs.Bounds.{at_cell}
 use Rattle.lj_base.specs.Cells.{IsCell, Triple}
 use Rattle.lj_base.specs.Frames.{InFrame, Top, cells_before_k, cells_before_v, index_of}
-use Rattle.lj_base.specs.declared.limits.TheConstants.{COST_LIMIT}
+use Rattle.lj_base.specs.declared.limits.TheConstants.{COST_LIMIT, MAX_CELLS}
 use Rattle.lj_cover.specs.Rules.{Part, triple}
 use Rattle.lj_product.specs.Parts.{IsPart, part_price}
 use Rattle.lj_product.specs.declared.sides.Sides.{Sides}
@@ -27,7 +27,7 @@ AreOffsets frame offsets = (k : ℕ) → k ≤ 26 → slice_index offsets k ≡ 
 -- the numbers, which are few, have a place for each cell of the frame, and by them the parts with these sides have
 -- prices that can be summed up
 pub record HasPrices (frame : Top) (numbers : List ℕ) (s : Sides) : Type 0 where
-  pub few : length numbers ≤ 99 * (26 * 9)
+  pub few : length numbers ≤ MAX_CELLS
   pub places : (c : Triple) → InFrame frame c → index_of frame c < length numbers
   pub small : (p : Part) → IsPart (cell_of s) s.v1 p → part_price (at_cell frame numbers) (cell_of s) s.v1 p < 2 ^ 61
   pub single : (p : Part) → IsPart (cell_of s) s.v1 p → p.a ≡ p.b
