@@ -1,6 +1,6 @@
 -- The words of a plan's lines are plain words, so that the lines read back.
-use Rattle.std.proofs.Common.{◌≡◌, ℕ, zero, suc, ◌+◌, ◌-◌, ◌^◌, ◌<◌, ◌≤◌, Bool, true, false, List, [], ◌∷◌, ◌++◌, decimal}
-use Rattle.std.proofs.Common.{eqb, length, map, slice_index, take, refl, sym, ap, ◌∙◌, subst, arith}
+use Rattle.std.proofs.Common.{◌≡◌, ℕ, zero, suc, ◌+◌, ◌-◌, ◌^◌, ◌<◌, ◌≤◌, Bool, true, false, List, [], ◌∷◌, ◌++◌}
+use Rattle.std.proofs.Common.{decimal, eqb, length, map, slice_index, take, refl, sym, ap, ◌∙◌, subst, arith}
 use Rattle.std.proofs.lemmas.Bool.{or_from}
 use Rattle.std.proofs.lemmas.List.{length-map, map-append, take_all}
 use Rattle.std.proofs.lemmas.Map.Views.{exact_unsigned_eq}
@@ -134,7 +134,8 @@ module _ (decimal_word : (n : ℕ) → n < 2 ^ 64 → IsPlainWord (decimal n))
       let a : p.a < 2 ^ 64 = omega (arith, blocks, few, sets, order) in
       let first : suc p.first < 2 ^ 64 = omega (arith, small, there.0) in
       let second : suc p.second < 2 ^ 64 = omega (arith, small, there.1.0) in (
-        colon-plain (p.a ∷ p.b ∷ p.l ∷ suc p.first ∷ suc p.second ∷ []) (omega arith) (a, (b, (l, (first, (second, tt))))),
+        colon-plain (p.a ∷ p.b ∷ p.l ∷ suc p.first ∷ suc p.second ∷ []) (omega arith)
+            (a, (b, (l, (first, (second, tt))))),
         parts-plain c v1 (p.b + 1) hi n ps few small chain.2 fits.1 there.1.1,
       )
 

@@ -11,7 +11,8 @@ use Rattle.std.specs.List.{AllByRecursion, AllPairs, Contains, flat_map, range_w
 use Rattle.lj_base.proofs.Lists.{AllByRecursion-append, AllByRecursion-weaker, length-joined}
 use Rattle.lj_base.specs.Cells.{IsCell, Triple}
 use Rattle.lj_base.specs.Frames.{Top}
-use Rattle.lj_report.specs.ReportCells.{IsBefore, IsListed, cells_from_v, cells_from_k, cells_from_t, report_cells}
+use Rattle.lj_report.specs.ReportCells.{IsListed, IsListedBefore, cells_from_v, cells_from_k, cells_from_t}
+use Rattle.lj_report.specs.ReportCells.{report_cells}
 
 -- ---- each listed cell
 
@@ -164,24 +165,24 @@ module _ (f : Top) where
       (λ n low high. all_mapped (λ c. c.t ≡ t) (λ m. record { v = m; k = n; t = t }) (suc n) (suc f.top.v - suc n)
       (λ m m_low m_high. refl))
 
-  ordered_v : (t k v : ℕ) → Ordered IsBefore (cells_from_v f t k v)
+  ordered_v : (t k v : ℕ) → Ordered IsListedBefore (cells_from_v f t k v)
   ordered_v t k v =
-      Ordered-mapped IsBefore (λ n. record { v = n; k = k; t = t }) v (suc f.top.v - v)
+      Ordered-mapped IsListedBefore (λ n. record { v = n; k = k; t = t }) v (suc f.top.v - v)
       (λ i j less. inr (refl, inr (refl, less)))
 
-  ordered_k : (t k : ℕ) → Ordered IsBefore (cells_from_k f t k)
+  ordered_k : (t k : ℕ) → Ordered IsListedBefore (cells_from_k f t k)
   ordered_k t k =
-      Ordered-joined IsBefore (λ n. cells_from_v f t n (suc n)) k (suc f.top.k - k) (λ n. ordered_v t n (suc n))
-      (λ m n less. Across-from IsBefore (λ c. (c.t ≡ t) × (c.k ≡ m)) (λ c. (c.t ≡ t) × (c.k ≡ n))
+      Ordered-joined IsListedBefore (λ n. cells_from_v f t n (suc n)) k (suc f.top.k - k) (λ n. ordered_v t n (suc n))
+      (λ m n less. Across-from IsListedBefore (λ c. (c.t ≡ t) × (c.k ≡ m)) (λ c. (c.t ≡ t) × (c.k ≡ n))
       (cells_from_v f t m (suc m)) (cells_from_v f t n (suc n))
       (same_k t m (suc m)) (same_k t n (suc n)) (λ a b p q. inr (p.0 ∙ sym q.0, inl (omega (arith, p.1, q.1)))))
 
-  ordered_t : (t : ℕ) → Ordered IsBefore (cells_from_t f t)
+  ordered_t : (t : ℕ) → Ordered IsListedBefore (cells_from_t f t)
   ordered_t t =
-      Ordered-joined IsBefore (λ n. cells_from_k f n (suc n)) t (suc f.top.t - t) (λ n. ordered_k n (suc n))
-      (λ m n less. Across-from IsBefore (λ c. c.t ≡ m) (λ c. c.t ≡ n) (cells_from_k f m (suc m))
+      Ordered-joined IsListedBefore (λ n. cells_from_k f n (suc n)) t (suc f.top.t - t) (λ n. ordered_k n (suc n))
+      (λ m n less. Across-from IsListedBefore (λ c. c.t ≡ m) (λ c. c.t ≡ n) (cells_from_k f m (suc m))
       (cells_from_k f n (suc n))
       (same_t m (suc m)) (same_t n (suc n)) (λ a b p q. inl (omega (arith, p, q))))
 
-  pub in_order : AllPairs IsBefore (report_cells f)
-  in_order = AllPairs-from IsBefore (report_cells f) (ordered_t 1)
+  pub in_order : AllPairs IsListedBefore (report_cells f)
+  in_order = AllPairs-from IsListedBefore (report_cells f) (ordered_t 1)

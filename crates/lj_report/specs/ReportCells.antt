@@ -37,5 +37,5 @@ cells_from f None = []
 cells_from f (Some c) = cells_from_v f c.t c.k c.v ++ (cells_from_k f c.t (suc c.k) ++ cells_from_t f (suc c.t))
 
 -- a comes before b: by t, then k, then v
-abbrev pub IsBefore : Triple → Triple → Type 0
-IsBefore a b = (a.t < b.t) ⊎ ((a.t ≡ b.t) × ((a.k < b.k) ⊎ ((a.k ≡ b.k) × (a.v < b.v))))
+abbrev pub IsListedBefore : Triple → Triple → Type 0
+IsListedBefore a b = (a.t < b.t) ⊎ ((a.t ≡ b.t) × ((a.k < b.k) ⊎ ((a.k ≡ b.k) × (a.v < b.v))))
