@@ -1,7 +1,7 @@
 #!/bin/sh
 # Measures the program lj_bench: expanding and writing a plan of 994,500 blocks, beside a program written by hand, and
-# reading a script of nearly 64 MiB, beside going through its lines alone. Ten runs each, taken in turn: the best and the
-# median wall time, the ratios of both, and the peak memory. It needs rustc and GNU time.
+# reading a script of nearly 64 MiB, beside going through its lines alone. Ten runs each, taken in turn: the best and
+# the median wall time, the ratios of both, and the peak memory. It needs rustc and GNU time.
 # usage: derivations.sh LJ_BENCH
 set -eu
 lj_bench=$1

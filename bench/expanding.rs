@@ -1,4 +1,5 @@
-// The blocks of a product, written by hand: each pair of 51 points beside each pair of 40, in the order of the rule, as lines.
+// The blocks of a product, written by hand: each pair of 51 points beside each pair of 40, in the order of the rule, as
+// lines.
 use std::io::Write;
 
 #[derive(Clone, Copy)]

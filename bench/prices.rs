@@ -1,7 +1,7 @@
 // The least prices of a frame without uploads by hand, in plain Rust, beside the proved program of the same loops: the
 // closing bounds by a worklist in index order, and then passes over all cells of the closed table.
-// usage: prices V K T PASSES; it writes the number of cells, of evaluations and of lowerings, the sum of all bounds, and
-// the time of one pass, the best of the passes.
+// usage: prices V K T PASSES; it writes the number of cells, of evaluations and of lowerings, the sum of all bounds,
+// and the time of one pass, the best of the passes.
 use std::time::Instant;
 
 #[derive(Clone, Copy)]

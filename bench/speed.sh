@@ -1,7 +1,8 @@
 #!/bin/sh
-# Measures the check of the built program against two written by hand, with 1 and with 4 workers: `marking.rs`, by runs of
-# pairs, and `strings.rs`, by whole strings of ranks. It prints the best and the median wall time of ten runs each, taken in
-# turn, the ratios of the program's to both, and the peak memory. It needs rustc and GNU time, and takes some minutes.
+# Measures the check of the built program against two written by hand, with 1 and with 4 workers: `marking.rs`, by runs
+# of pairs, and `strings.rs`, by whole strings of ranks. It prints the best and the median wall time of ten runs each,
+# taken in turn, the ratios of the program's to both, and the peak memory. It needs rustc and GNU time, and takes some
+# minutes.
 # usage: speed.sh LJCR
 set -eu
 ljcr=$1

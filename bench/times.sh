@@ -1,7 +1,7 @@
 # What the scripts that measure share. They set `work` to a folder of their own.
 
-# measure SIDE INPUT COMMAND..: runs the command on the input, keeps its output, and appends the wall time in seconds and
-# the peak memory in kilobytes to the times of that side; its status is the command's
+# measure SIDE INPUT COMMAND..: runs the command on the input, keeps its output, and appends the wall time in seconds
+# and the peak memory in kilobytes to the times of that side; its status is the command's
 measure() {
     side=$1
     input=$2

@@ -2,8 +2,7 @@
 use Rattle.std.specs.Prelude.{◌≡◌, ◌⊎◌, ℕ, ◌+◌, ◌-◌, ◌^◌, ◌<◌, min, List, length, Contains}
 
 -- the bytes that are left, the most bytes that a call gives, the calls that fail, counted from 1, and the numbers of
--- calls
--- and of faults so far
+-- calls and of faults so far
 pub record Feed : Type 0 where
   pub left : List ℕ
   pub piece : ℕ

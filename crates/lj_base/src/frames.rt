@@ -5,6 +5,7 @@ ghost use Rattle.lj_base.specs.Frames.{InFrame, before_k, cells_before_k, cells_
 ghost use Rattle.lj_base.specs.Frames.{up_to_v};
 
 use crate::cells::Cell;
+use crate::limits::MAX_CELLS;
 use std::marker::Model;
 
 /// All cells whose three numbers are at most those of a top cell.
@@ -44,7 +45,7 @@ impl Frame {
     pub fn size(&self) -> u64
         ensures size { result ≡ size_of self.now }
         ensures cells { result ≡ length (cells_of self.now) }
-        ensures small { result ≤ 99 * (26 * 9) }
+        ensures small { result ≤ MAX_CELLS }
     {
         let top = self.top;
         up_to(top.k as u64, top.t as u64, top.v as u64)
@@ -68,7 +69,7 @@ impl Frame {
         requires some { 1 ≤ v }
         requires inside { v ≤ self.now.top.v }
         ensures count { result ≡ cells_before_v self.now v }
-        ensures small { result ≤ 99 * (26 * 9) }
+        ensures small { result ≤ MAX_CELLS }
     {
         let top = self.top;
         up_to(top.k as u64, top.t as u64, v as u64 - 1)
@@ -175,7 +176,7 @@ fn up_to(k: u64, t: u64, v: u64) -> u64
     requires small_t { t ≤ 8 }
     requires small_v { v ≤ 99 }
     ensures up_to { result ≡ up_to_v k t v }
-    ensures small { result ≤ 99 * (26 * 9) }
+    ensures small { result ≤ MAX_CELLS }
 {
     if v <= k {
         layers(t, v)

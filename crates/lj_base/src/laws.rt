@@ -4,18 +4,18 @@ ghost use Rattle.std.specs.Prelude.{◌≡◌, ◌≢◌, ℕ, ◌+◌, ◌-◌,
 ghost use Rattle.std.specs.Prelude.{Contains};
 ghost use Rattle.lj_base.specs.Bounds.{at_cell};
 ghost use Rattle.lj_base.specs.Cells.{IsCell, Triple};
-ghost use Rattle.lj_base.specs.Colex.{choose};
+ghost use Rattle.lj_base.specs.Colex.{choose, sets};
 ghost use Rattle.lj_base.specs.Frames.{InFrame, IsBefore, Top, cells_before_k, cells_before_v, cells_of, index_of, key};
 ghost use Rattle.lj_base.specs.Frames.{size_of};
 
-use crate::limits::COST_LIMIT;
+use crate::limits::{COST_LIMIT, MAX_CELLS};
 
 /// On the cells of a frame the index is one to one and below the frame's size, which is small. It is the sum of the
 /// number of cells with a lesser `v`, the number of those with the same `v` and a lesser `k`, and `t`.
 pub fn index_law()
     ensures below { (f : Top) (c : Triple) → InFrame f c → index_of f c < size_of f }
     ensures one_to_one { (f : Top) (c d : Triple) → InFrame f c → InFrame f d → index_of f c ≡ index_of f d → c ≡ d }
-    ensures size { (f : Top) → IsCell f.top → size_of f ≤ 99 * (26 * 9) }
+    ensures size { (f : Top) → IsCell f.top → size_of f ≤ MAX_CELLS }
     ensures offsets { (f : Top) (c : Triple) → index_of f c ≡ cells_before_v f c.v + cells_before_k f c.k + c.t }
 {}
 
@@ -44,13 +44,14 @@ pub fn at_cell_law()
 {}
 
 /// The number of sets of `k` points among `n`: 0 where `k` is greater, 1 for all points, and else at least 1. It does
-/// not fall where points are added.
+/// not fall where points are added, and the list of these sets has this many.
 pub fn choose_law()
     ensures past { (n k : ℕ) → n < k → choose n k ≡ 0 }
     ensures all { (n : ℕ) → choose n n ≡ 1 }
     ensures some { (n k : ℕ) → k ≤ n → 1 ≤ choose n k }
     ensures grows { (n m k : ℕ) → n ≤ m → choose n k ≤ choose m k }
     ensures small { (n k : ℕ) → n ≤ 99 → k ≤ 8 → choose n k < COST_LIMIT }
+    ensures count { (n k : ℕ) → length (sets n k) ≡ choose n k }
 {}
 
 /// The points are split in two: a set on each side makes one set of all points, so that the products of their numbers

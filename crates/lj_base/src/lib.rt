@@ -23,7 +23,7 @@ pub use in_memory::{MemSink, MemSource};
 pub use laws::{
     at_cell_law, cells_law, choose_law, choose_product_law, index_law, index_order_law,
 };
-pub use limits::{COST_LIMIT, MAX_BLOCKS, MAX_INPUT, MAX_MARKS, MAX_SETS};
+pub use limits::{COST_LIMIT, MAX_BLOCKS, MAX_CELLS, MAX_INPUT, MAX_MARKS, MAX_SETS};
 pub use points::Points;
 pub use rows::Row;
 pub use standard::{StdSink, StdSource};

@@ -11,5 +11,8 @@ pub const MAX_MARKS: u64 = 1 << 31;
 /// The most bytes that are read as one input.
 pub const MAX_INPUT: u64 = 1 << 26;
 
-/// Every cost is below this: no frame has a cell with as many sets.
+/// The most cells that a frame has: one for each `v` up to 99, `k` up to 25 and `t` up to 8.
+pub const MAX_CELLS: u64 = 99 * (26 * 9);
+
+/// Every cost is below this: no cell has this many sets.
 pub const COST_LIMIT: u64 = 1 << 38;

@@ -66,6 +66,10 @@ AllDifferent-map_suc lo v (p ∷ b) h = (
   AllDifferent-map_suc (suc p) v b h.2,
 )
 
+pub below_18_digits : (ns : List ℕ) → AllByRecursion (λ n. n < 10 ^ 18) ns → AllByRecursion (λ n. n < 2 ^ 64) ns
+below_18_digits ns h =
+    AllByRecursion-weaker (λ n. n < 10 ^ 18) (λ n. n < 2 ^ 64) ns (λ n small. omega (arith, small)) h
+
 few_digits : (v : ℕ) (b : List ℕ) → Ascends 0 v b → v ≤ 99 → AllByRecursion (λ n. n < 10 ^ 18) (map suc b)
 few_digits v b h small =
     AllByRecursion-weaker (λ n. (1 ≤ n) × (n ≤ v)) (λ n. n < 10 ^ 18) (map suc b)

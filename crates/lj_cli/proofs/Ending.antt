@@ -43,7 +43,7 @@ small output i o ended (inl h) =
     inl (
       h.text,
       subst (λ b. output b h.text ended) is
-          (subst (λ n. output h.bytes h.text n) (sym done.0) h.says),
+          (subst (λ n. output h.bytes h.text n) (sym done.0) h.belongs),
       done.1,
     ))
 small output i o ended (inr (inl h)) =

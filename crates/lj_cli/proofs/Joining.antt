@@ -9,11 +9,11 @@ use Rattle.std.proofs.Common.{codes}
 use Rattle.lj_cli.specs.GoodWords.{GoodWords, IsCheckCall}
 use Rattle.lj_cli.specs.declared.words.CheckCall.{CheckCall}
 use Rattle.lj_cli.specs.declared.given.Kind.{Kind}
-use Rattle.lj_cli.specs.Given.{Gift, IsFew, all_numbers, given_by, joined, kind_of, nothing, with_json, with_number}
-use Rattle.lj_cli.specs.Given.{with_workers, word_gives}
+use Rattle.lj_cli.specs.Given.{Arguments, IsFew, all_numbers, given_by, joined, kind_of, nothing, with_json}
+use Rattle.lj_cli.specs.Given.{with_number, with_workers, word_gives}
 
 -- what a value after --workers gives
-abbrev pub valued : List (List ℕ) → Option Gift
+abbrev pub valued : List (List ℕ) → Option Arguments
 valued [] = None
 valued (next ∷ words) = with_workers (number_of next) (given_by words)
 
@@ -23,26 +23,26 @@ given_by-first word [] = refl
 given_by-first word (next ∷ words) = refl
 
 -- by the word's kind, with what was given before
-pub joined-first : (g : Gift) (word : List ℕ) (words : List (List ℕ)) (kind : Kind) → kind ≡ kind_of word
+pub joined-first : (g : Arguments) (word : List ℕ) (words : List (List ℕ)) (kind : Kind) → kind ≡ kind_of word
     → joined g (given_by (word ∷ words)) ≡ joined g
     (word_gives kind word (all_numbers words) (given_by words) (valued words))
 joined-first g word words kind is =
     ap (joined g) (given_by-first word words) ∙ ap
     (λ k. joined g (word_gives k word (all_numbers words) (given_by words) (valued words))) (sym is)
 
-pub joined-nothing : (h : Option Gift) → joined nothing h ≡ h
+pub joined-nothing : (h : Option Arguments) → joined nothing h ≡ h
 joined-nothing None = refl
 joined-nothing (Some h) = let e : 0 + h.json ≡ h.json = omega arith in ap
-    (λ n. let g : Gift = record h { json = n } in Some g) e
+    (λ n. let g : Arguments = record h { json = n } in Some g) e
 
-pub joined-done : (g : Gift) → joined g (Some nothing) ≡ Some g
+pub joined-done : (g : Arguments) → joined g (Some nothing) ≡ Some g
 joined-done g =
     let e : g.json + 0 ≡ g.json = omega arith in
     let numbers = append-nil g.numbers in
     let workers = append-nil g.workers in
     λ i. Some (record { numbers = numbers i; workers = workers i; json = e i })
 
-pub number_added : (g g' : Gift) (o : Option ℕ) (h : Option Gift) → (n : ℕ) × (o ≡ Some n) ×
+pub number_added : (g g' : Arguments) (o : Option ℕ) (h : Option Arguments) → (n : ℕ) × (o ≡ Some n) ×
     (g' ≡ record g { numbers = g.numbers ++ n ∷ [] })
     → joined g (with_number o h) ≡ joined g' h
 number_added g g' o None added =
@@ -50,11 +50,11 @@ number_added g g' o None added =
 number_added g g' o (Some h) added =
     let front = sym (append_assoc g.numbers (added.0 ∷ []) h.numbers) in
     ap (λ o. joined g (with_number o (Some h))) added.1
-    ∙ ap (λ xs. let k : Gift = record { numbers = xs; workers = g.workers ++ h.workers; json = g.json + h.json } in
+    ∙ ap (λ xs. let k : Arguments = record { numbers = xs; workers = g.workers ++ h.workers; json = g.json + h.json } in
     Some k) front
     ∙ ap (λ k. joined k (Some h)) (sym added.2)
 
-pub workers_added : (g g' : Gift) (o : Option ℕ) (h : Option Gift) → (n : ℕ) × (o ≡ Some n) ×
+pub workers_added : (g g' : Arguments) (o : Option ℕ) (h : Option Arguments) → (n : ℕ) × (o ≡ Some n) ×
     (g' ≡ record g { workers = g.workers ++ n ∷ [] })
     → joined g (with_workers o h) ≡ joined g' h
 workers_added g g' o None added =
@@ -62,52 +62,54 @@ workers_added g g' o None added =
 workers_added g g' o (Some h) added =
     let front = sym (append_assoc g.workers (added.0 ∷ []) h.workers) in
     ap (λ o. joined g (with_workers o (Some h))) added.1
-    ∙ ap (λ xs. let k : Gift = record { numbers = g.numbers ++ h.numbers; workers = xs; json = g.json + h.json } in
+    ∙ ap (λ xs. let k : Arguments = record { numbers = g.numbers ++ h.numbers; workers = xs; json = g.json + h.json } in
     Some k) front
     ∙ ap (λ k. joined k (Some h)) (sym added.2)
 
-pub json_added : (g g' : Gift) (h : Option Gift) → g' ≡ record g { json = g.json + 1 } → joined g
+pub json_added : (g g' : Arguments) (h : Option Arguments) → g' ≡ record g { json = g.json + 1 } → joined g
     (with_json h) ≡ joined g' h
 json_added g g' None added = refl
 json_added g g' (Some h) added =
     let sum : g.json + (h.json + 1) ≡ g.json + 1 + h.json = omega arith in
-    ap (λ n. let k : Gift = record { numbers = g.numbers ++ h.numbers; workers = g.workers ++ h.workers; json = n } in
+    ap (λ n. let k : Arguments =
+    record { numbers = g.numbers ++ h.numbers; workers = g.workers ++ h.workers; json = n } in
     Some k) sum
     ∙ ap (λ k. joined k (Some h)) (sym added)
 
-pub number_refused : (g : Gift) (o : Option ℕ) (h : Option Gift) → (o ≡ None) ⊎ (length g.numbers ≡ 3) → IfSome
-    (joined g (with_number o h)) (λ x. IsFew x → ⊥)
+pub number_refused : (g : Arguments) (o : Option ℕ) (h : Option Arguments) → (o ≡ None) ⊎ (length g.numbers ≡ 3)
+    → IfSome (joined g (with_number o h)) (λ x. IsFew x → ⊥)
 number_refused g None h why = tt
 number_refused g (Some n) None why = tt
 number_refused g (Some n) (Some h) (inl e) = cc
 number_refused g (Some n) (Some h) (inr full) = λ few. let both = length-append g.numbers (n ∷ h.numbers) in omega
     (arith, both, few.0, full)
 
-pub workers_refused : (g : Gift) (o : Option ℕ) (h : Option Gift) → (o ≡ None) ⊎ (length g.workers ≡ 1) → IfSome
-    (joined g (with_workers o h)) (λ x. IsFew x → ⊥)
+pub workers_refused : (g : Arguments) (o : Option ℕ) (h : Option Arguments) → (o ≡ None) ⊎ (length g.workers ≡ 1)
+    → IfSome (joined g (with_workers o h)) (λ x. IsFew x → ⊥)
 workers_refused g None h why = tt
 workers_refused g (Some n) None why = tt
 workers_refused g (Some n) (Some h) (inl e) = cc
 workers_refused g (Some n) (Some h) (inr full) = λ few. let both = length-append g.workers (n ∷ h.workers) in omega
     (arith, both, few.1, full)
 
-pub json_refused : (g : Gift) (h : Option Gift) → g.json ≡ 1 → IfSome (joined g (with_json h)) (λ x. IsFew x → ⊥)
+pub json_refused : (g : Arguments) (h : Option Arguments) → g.json ≡ 1
+    → IfSome (joined g (with_json h)) (λ x. IsFew x → ⊥)
 json_refused g None full = tt
 json_refused g (Some h) full = λ few. omega (arith, few.2, full)
 
 -- no call takes what these words give
-abbrev pub IsRefused : Option Gift → Type 0
+abbrev pub IsRefused : Option Arguments → Type 0
 IsRefused given = IfSome given (λ g. IsFew g → ⊥)
 
 -- where the first word is refused no call takes the words, whatever else is returned
-pub refused : {T : Type 0} (g : Gift) (word : List ℕ) (words : List (List ℕ)) (kind : Kind) → kind ≡ kind_of word
+pub refused : {T : Type 0} (g : Arguments) (word : List ℕ) (words : List (List ℕ)) (kind : Kind) → kind ≡ kind_of word
     → IsRefused (joined g (word_gives kind word (all_numbers words) (given_by words) (valued words)))
     → (returned : Option T) → IfNone returned (IsRefused (joined g (given_by (word ∷ words))))
 refused g word words kind is why None = subst IsRefused (sym (joined-first g word words kind is)) why
 refused g word words kind is why (Some x) = tt
 
 -- the value after --workers
-pub value_refused : (g : Gift) (next : List ℕ) (words : List (List ℕ)) → (number_of next ≡ None) ⊎
+pub value_refused : (g : Arguments) (next : List ℕ) (words : List (List ℕ)) → (number_of next ≡ None) ⊎
     (length g.workers ≡ 1) → IsRefused (joined g (valued (next ∷ words)))
 value_refused g next words why = workers_refused g (number_of next) (given_by words) why
 
@@ -117,8 +119,8 @@ first_is [] x e = cc
 first_is (y ∷ xs) x e = let same : y ≡ x = cc in ap (λ z. z ∷ xs) same
 
 -- the name of a call and what the words after it give
-pub good_words : (name : List ℕ) (words : List (List ℕ)) (g : Gift) (call : Option CheckCall) → given_by words ≡ Some g
-    → name ≡ codes "check"
+pub good_words : (name : List ℕ) (words : List (List ℕ)) (g : Arguments) (call : Option CheckCall)
+    → given_by words ≡ Some g → name ≡ codes "check"
     → IfSome call (IsCheckCall g) → IfSome call (GoodWords (name ∷ words))
 good_words name words g None given is call = tt
 good_words name words g (Some _) given is asks = (g, given, is, asks)

@@ -1,3 +1,4 @@
 pub mod Joining
 pub mod Calls
 pub mod Ending
+pub mod OneOutput

@@ -2,9 +2,7 @@
 use Rattle.std.specs.Prelude.{◌≡◌, ℕ, List, length}
 use Rattle.lj_base.specs.Blocks.{Covers}
 use Rattle.lj_base.specs.Cells.{Triple}
-use Rattle.lj_blockfile.specs.BlockFiles.{AreBlocksOf, IsBodyFault}
-use Rattle.lj_blockfile.specs.declared.faults.BodyFault.{BodyFault}
-use Rattle.lj_blockfile.specs.declared.faults.BodyFault.TheVariants.{Memory as NoBlocksMemory}
+use Rattle.lj_blockfile.specs.BlockFiles.{AreBlocksOf, IsBodyFault, IsInputFault}
 use Rattle.lj_verify.specs.Limits.{IsWithinLimits}
 use Rattle.lj_verify.specs.Refusals.{IsRefused}
 use Rattle.lj_verify.specs.declared.refusals.Refusal.{Refusal}
@@ -13,19 +11,14 @@ use Rattle.lj_cli.specs.Verdicts.{verdict_status, verdict_text}
 use Rattle.lj_cli.specs.declared.verdicts.Verdict.{Verdict}
 use Rattle.lj_cli.specs.declared.verdicts.Verdict.TheVariants.{Fault, Refused, Covered}
 
--- the fault is of the input, and not for memory
-abbrev pub IsInputFault : BodyFault → Type 0
-IsInputFault NoBlocksMemory = ⊥
-IsInputFault fault = Unit {0}
-
 -- the refusal is of the input, and not for memory
 abbrev pub IsInputRefusal : Refusal → Type 0
 IsInputRefusal Memory = ⊥
 IsInputRefusal refusal = Unit {0}
 
 -- what holds of the bytes of an input, for a cell: they have this first fault; or they are blocks that exceed this
--- first limit, or that leave this first set uncovered; or they are blocks within the limits that cover, and these are
--- as many
+-- first limit, or that leave this first set uncovered; or they are blocks within the limits that cover, and there are
+-- this many
 abbrev pub IsVerdict : Triple → List ℕ → Verdict → Type 0
 IsVerdict c bytes (Fault fault) = IsBodyFault bytes c.v c.k fault × IsInputFault fault
 IsVerdict c bytes (Refused refusal) =

@@ -8,12 +8,12 @@ use Rattle.lj_cli.specs.declared.given.Kind.{Kind}
 use Rattle.lj_cli.specs.declared.given.Kind.TheVariants.{End, Workers, WorkersValue, Json, Unknown, Positional}
 
 -- the positional words, which are numbers; the values of --workers; how often --json occurs
-pub record Gift : Type 0 where
+pub record Arguments : Type 0 where
   pub numbers : List ℕ
   pub workers : List ℕ
   pub json : ℕ
 
-abbrev pub nothing : Gift
+abbrev pub nothing : Arguments
 nothing = record { numbers = []; workers = []; json = 0 }
 
 abbrev pub kind_of : List ℕ → Kind
@@ -24,28 +24,28 @@ kind_of word =
     (if bytes_eq word (codes "--json") then Json else
     (if starts_with nat_eq word (codes "-") then Unknown else Positional))))
 
-abbrev pub with_number : Option ℕ → Option Gift → Option Gift
+abbrev pub with_number : Option ℕ → Option Arguments → Option Arguments
 with_number None rest = None
 with_number (Some n) None = None
 with_number (Some n) (Some g) = Some (record g { numbers = n ∷ g.numbers })
 
-abbrev pub with_workers : Option ℕ → Option Gift → Option Gift
+abbrev pub with_workers : Option ℕ → Option Arguments → Option Arguments
 with_workers None rest = None
 with_workers (Some n) None = None
 with_workers (Some n) (Some g) = Some (record g { workers = n ∷ g.workers })
 
-abbrev pub with_json : Option Gift → Option Gift
+abbrev pub with_json : Option Arguments → Option Arguments
 with_json None = None
 with_json (Some g) = Some (record g { json = g.json + 1 })
 
 -- after the word -- each word is a number
-abbrev pub all_numbers : List (List ℕ) → Option Gift
+abbrev pub all_numbers : List (List ℕ) → Option Arguments
 all_numbers [] = Some nothing
 all_numbers (word ∷ words) = with_number (number_of word) (all_numbers words)
 
 -- what a word of this kind gives: `numbers` where each word after it is a number, `rest` where those are read as
 -- before, and `valued` where the next word is its value
-abbrev pub word_gives : Kind → List ℕ → Option Gift → Option Gift → Option Gift → Option Gift
+abbrev pub word_gives : Kind → List ℕ → Option Arguments → Option Arguments → Option Arguments → Option Arguments
 word_gives End word numbers rest valued = numbers
 word_gives Workers word numbers rest valued = valued
 word_gives WorkersValue word numbers rest valued = with_workers (number_of (drop 10 word)) rest
@@ -54,7 +54,7 @@ word_gives Unknown word numbers rest valued = None
 word_gives Positional word numbers rest valued = with_number (number_of word) rest
 
 -- what the words give, from left to right; nothing where one of them is refused
-abbrev pub given_by : List (List ℕ) → Option Gift
+abbrev pub given_by : List (List ℕ) → Option Arguments
 given_by [] = Some nothing
 given_by (word ∷ []) = word_gives (kind_of word) word (Some nothing) (Some nothing) None
 given_by (word ∷ (next ∷ words)) =
@@ -62,11 +62,11 @@ given_by (word ∷ (next ∷ words)) =
     (with_workers (number_of next) (given_by words))
 
 -- no command takes more
-abbrev pub IsFew : Gift → Type 0
+abbrev pub IsFew : Arguments → Type 0
 IsFew g = (length g.numbers ≤ 3) × (length g.workers ≤ 1) × (g.json ≤ 1)
 
 -- what was given before, and what comes
-abbrev pub joined : Gift → Option Gift → Option Gift
+abbrev pub joined : Arguments → Option Arguments → Option Arguments
 joined g None = None
 joined g (Some h) = Some (record {
   numbers = g.numbers ++ h.numbers;

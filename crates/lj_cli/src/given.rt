@@ -20,9 +20,9 @@ pub struct Given {
 impl Model for Given {
     ghost use Rattle.std.specs.Prelude.{◌≡◌, ◌≤◌, if◌then◌else◌, take};
     ghost use Rattle.std.specs.Option.{option_to_list};
-    ghost use Rattle.lj_cli.specs.Given.{Gift};
+    ghost use Rattle.lj_cli.specs.Given.{Arguments};
 
-    ghost Value = { Gift };
+    ghost Value = { Arguments };
 
     ghost view = { λ g. record {
       numbers = take g.count g.numbers;

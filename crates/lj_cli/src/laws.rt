@@ -1,4 +1,4 @@
-ghost use Rattle.std.specs.Prelude.{◌≡◌, ◌⊎◌, ◌<◌, ◌≤◌, IfSome, length};
+ghost use Rattle.std.specs.Prelude.{◌≡◌, ◌⊎◌, ℕ, List, ◌<◌, ◌≤◌, IfSome, length};
 ghost use Rattle.lj_base.specs.Streams.{Appends, Rose};
 ghost use Rattle.lj_cli.specs.CheckOutput.{IsCheckOutput};
 ghost use Rattle.lj_cli.specs.Ends.{Ends, HasOutput, too_large_text};
@@ -6,6 +6,8 @@ ghost use Rattle.lj_cli.specs.GoodWords.{GoodWords};
 
 use crate::status::{NO_MEMORY, TOO_LARGE};
 use lj_base::MAX_INPUT;
+use lj_blockfile::one_reading_law;
+use lj_verify::outcome_law;
 
 /// A list of words calls for at most one command.
 pub fn words_law()
@@ -22,3 +24,12 @@ pub fn complete_law()
         MAX_INPUT < length all → (Rose i.faults i.faults_now → ⊥) → (Rose o.faults o.faults_now → ⊥) →
         ((ended ≡ TOO_LARGE) × Appends o.written o.written_now too_large_text) ⊎ (ended ≡ NO_MEMORY)) }
 {}
+
+/// The bytes of an input have one text and one status for a check of a cell.
+pub fn output_law()
+    ensures { (c : _) (bytes text other : List ℕ) (status ended : ℕ) → IsCheckOutput c bytes text status →
+        IsCheckOutput c bytes other ended → (text ≡ other) × (status ≡ ended) }
+{
+    one_reading_law();
+    outcome_law();
+}

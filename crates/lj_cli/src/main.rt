@@ -14,7 +14,7 @@ mod words;
 
 pub use check::check_run;
 pub use given::{Given, read_given};
-pub use laws::{complete_law, words_law};
+pub use laws::{complete_law, output_law, words_law};
 use lj_base::{StdSink, StdSource};
 pub use status::{
     BAD_WORDS, DONE, FAULTY, NO_MEMORY, NO_WORDS, READ_FAILED, TOO_LARGE, UNCOVERED, WRITE_FAILED,

@@ -15,7 +15,7 @@ pub enum Verdict {
     Fault { fault: BodyFault },
     /// Its blocks are too many, or some set is not covered.
     Refused { refusal: Refusal },
-    /// Its blocks cover, and these are as many.
+    /// Its blocks cover, and there are this many.
     Covered { blocks: u64 },
 }
 

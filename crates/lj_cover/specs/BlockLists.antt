@@ -61,8 +61,7 @@ at_size (s ∷ ss) [] d l = d
 at_size (s ∷ ss) (x ∷ xs) d l = if s == l then x else at_size ss xs d l
 
 -- the blocks for one cut: none where it is smaller than t, itself filled below w where it has up to k points, and else
--- those
--- of the child for its size, placed on its points
+-- those of the child for its size, placed on its points
 abbrev pub blocks_of_cut : ℕ → ℕ → List (List ℕ) → List ℕ → List (List ℕ)
 blocks_of_cut t k child c =
     if nat_lt (length c) t then [] else (if nat_le (length c) k then fill k c ∷ [] else map (place c) child)

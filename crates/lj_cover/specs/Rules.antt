@@ -1,6 +1,5 @@
 -- The rules by which a covering is made from uploads and from coverings of other cells: each has its cell, the cells
--- of its
--- children, a condition, a cost, and a list of blocks.
+-- of its children, a condition, a cost, and a list of blocks.
 use Rattle.std.specs.Prelude.{◌≡◌, ℕ, ◌+◌, ◌-◌, ◌*◌, ◌<◌, ◌≤◌, ◌⊎◌, nat_lt, nat_le, if◌then◌else◌, min, List, [], ◌∷◌}
 use Rattle.std.specs.Prelude.{map, length, slice_index}
 use Rattle.std.specs.List.{AllByRecursion, flat_map, sum_by}

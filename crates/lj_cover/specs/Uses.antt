@@ -1,6 +1,5 @@
 -- What holds of each upload, or of each rule, of a derivation follows from what is stronger. A contract can't range
--- over all such
--- facts, so these laws stand here, and the laws for lists of uploads are contracts.
+-- over all such facts, so these laws stand here, and the laws for lists of uploads are contracts.
 use Rattle.std.specs.Prelude.{◌≡◌, ℕ}
 use Rattle.lj_base.specs.Cells.{Triple}
 use Rattle.lj_base.specs.Frames.{Top}

@@ -1,6 +1,5 @@
 -- What a node names, and the derivation that it has. The children of a node are numbers of earlier nodes, and an
--- upload is a
--- number too.
+-- upload is a number too.
 use Rattle.std.specs.Prelude.{ℕ, ◌+◌, ◌-◌, List, [], ◌∷◌, ◌++◌, length, map, replicate, take, slice_index}
 use Rattle.lj_base.specs.Cells.{Triple}
 use Rattle.std.specs.List.{flat_map}

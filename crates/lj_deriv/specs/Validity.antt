@@ -21,8 +21,7 @@ IsNarrow uploads (Induced c u children) = c.v ≤ (upload_at uploads u).cell.v
 IsNarrow uploads r = Unit {0}
 
 -- a rule may follow these nodes: what it names is there, with its children it is a rule's use as the table of rules
--- allows,
--- and it costs less than 2^38
+-- allows, and its cost is below `COST_LIMIT`
 pub record IsValid (uploads : List Upload) (rules : List Rule) (r : Rule) : Type 0 where
   pub shaped : IsShaped uploads r
   pub children : AllByRecursion (λ i. i < length rules) (children_of uploads r)
@@ -37,8 +36,7 @@ abbrev pub AreValid : List Upload → List Rule → Type 0
 AreValid uploads rules = (i : ℕ) → i < length rules → IsValid uploads (take i rules) (rule_at rules i)
 
 -- the node with this number has this rule: its children stand before it, its upload is there, with its children it is
--- a rule's
--- use as the table of rules allows, and its derivation is built by the rule
+-- a rule's use as the table of rules allows, and its derivation is built by the rule
 pub record IsNode (uploads : List Upload) (rules : List Rule) (i : ℕ) (r : Rule) : Type 0 where
   pub rule : r ≡ rule_at rules i
   pub shaped : IsShaped uploads r

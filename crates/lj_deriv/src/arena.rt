@@ -1,22 +1,27 @@
-ghost use Rattle.std.specs.Prelude.{◌≡◌, ℕ, ◌+◌, ◌-◌, ◌<◌, ◌≤◌, [], ◌∷◌, ◌++◌};
+ghost use Rattle.std.specs.Prelude.{◌≡◌, ℕ, ◌+◌, ◌-◌, ◌^◌, ◌<◌, ◌≤◌, [], ◌∷◌, ◌++◌, if◌then◌else◌};
 ghost use Rattle.std.specs.Prelude.{length, map, max, slice_index, IfOk, OnErr, OnOk};
 ghost use Rattle.std.specs.List.{AllByRecursion, flat_map};
 ghost use Rattle.lj_base.specs.Frames.{InFrame};
 ghost use Rattle.lj_cover.specs.Derivations.{IsIn, root_cell, tree_cost, tree_costs};
 ghost use Rattle.lj_cover.specs.Rules.{IsCovering, cut_cost, sum_of_products};
 ghost use Rattle.lj_cover.specs.Instances.{cut_counts, row_price};
+ghost use Rattle.lj_cover.specs.Operations.{cut, has_point};
 ghost use Rattle.lj_deriv.specs.Nodes.{IsDerivedIn, node_tree, plan_tree, rule_tree};
 ghost use Rattle.lj_deriv.specs.Plans.{IsPlanOf};
+ghost use Rattle.lj_deriv.specs.Positions.{source_at, tree_share, tree_source};
 ghost use Rattle.lj_deriv.specs.Trees.{children_of, sizes_of, trees_at, trees_of, upload_at};
 ghost use Rattle.lj_deriv.specs.Validity.{AreValid, IsNode, IsValid};
+ghost use Rattle.lj_upload.specs.Uploads.{IsAccepted};
 
 use crate::copying::copy_reached;
 use crate::limits::{MAX_ARENA_UPLOADS, MAX_NODES};
 use crate::plans::Plan;
 use crate::rules::{Part, Rule};
-use lj_base::{COST_LIMIT, Cell, Frame, Memory, binom};
-use lj_cover::laws::{costs_are_positive, price_by_row, sizes_of_cuts};
-use lj_cover::{degree, pair_degree, runs_count};
+use lj_base::{Block, COST_LIMIT, Cell, Frame, Memory, binom};
+use lj_cover::laws::{
+    costs_are_positive, larger_cuts_have_children, points_are_tested, price_by_row, sizes_of_cuts,
+};
+use lj_cover::{cut_first, degree, has_both, pair_degree, runs_count};
 use lj_upload::Accepted;
 use std::alloc::Global;
 use std::marker::Model;
@@ -82,6 +87,8 @@ impl Arena {
         ensures uploads { result.now ≡ self.now.uploads }
         ensures few { length self.now.uploads ≤ MAX_ARENA_UPLOADS }
         ensures covering { AllByRecursion IsCovering self.now.uploads }
+        ensures accepted { AllByRecursion IsAccepted self.now.uploads }
+        ensures ordinals { AllByRecursion (λ u. u.ordinal < 2 ^ 64) self.now.uploads }
         ensures inside { AllByRecursion (λ u. InFrame self.now.frame u.cell) self.now.uploads }
     {
         &self.uploads
@@ -201,7 +208,7 @@ impl Arena {
     {
         let nodes = self.len();
         prove!(root < nodes);
-        Ok(Plan::of(copy_reached(self, alloc, root)?))
+        Plan::of(alloc, copy_reached(self, alloc, root)?)
     }
 
     /// An upload, by its number.
@@ -210,6 +217,65 @@ impl Arena {
         ensures { result.now ≡ upload_at self.now.uploads u }
     {
         &self.uploads[u as usize]
+    }
+
+    /// The blocks of the upload that the node's rule goes through; none for other rules.
+    pub(crate) fn source(&self, node: u64) -> &[Block]
+        requires { node < length self.now.rules }
+        ensures { result.now ≡ tree_source (node_tree self.now node) }
+    {
+        match *self.rule(node) {
+            Rule::Derived { upload, .. } => self.upload(upload).design().blocks(),
+            Rule::Derived2 { upload, .. } => self.upload(upload).design().blocks(),
+            Rule::Induced { upload, .. } => self.upload(upload).design().blocks(),
+            _ => &[],
+        }
+    }
+
+    /// How many blocks the block at a place of the node's source gives.
+    pub(crate) fn share(&self, node: u64, place: u64) -> u64
+        requires there { node < length self.now.rules }
+        requires inside { place < length (tree_source (node_tree self.now node)) }
+        ensures { result ≡ tree_share (node_tree self.now node) (source_at (node_tree self.now node) place) }
+    {
+        sizes_of_cuts();
+        larger_cuts_have_children();
+        match self.rule(node) {
+            Rule::Derived { upload, point } => {
+                let block = self.upload(*upload).design().blocks()[place as usize];
+                point_share(&block, *point)
+            }
+            Rule::Derived2 {
+                upload,
+                first,
+                second,
+            } => {
+                let block = self.upload(*upload).design().blocks()[place as usize];
+                u64::from(has_both(&block, *first, *second))
+            }
+            Rule::Induced {
+                cell,
+                upload,
+                children,
+            } => {
+                let block = self.upload(*upload).design().blocks()[place as usize];
+                self.induced_share(*cell, block, children)
+            }
+            _ => 0,
+        }
+    }
+
+    // How many blocks one block gives that is cut.
+    fn induced_share(&self, cell: Cell, block: Block, children: &[u64; 26]) -> u64
+        requires { cell.k < length (cut cell.v block)
+            → slice_index children.now (length (cut cell.v block)) < length self.now.rules }
+        ensures { result ≡ cut_cost cell.t cell.k
+            (tree_cost (node_tree self.now (slice_index children.now (length (cut cell.v block)))))
+            (length (cut cell.v block)) }
+    {
+        let size = cut_first(block, u64::from(cell.v)).len();
+        let child = children[size as usize];
+        self.cut_cost(cell, size, child)
     }
 
     // The cell of the derivation that a rule gives over these nodes.
@@ -315,4 +381,12 @@ impl Arena {
             self.cost(child)
         }
     }
+}
+
+// How many blocks a block gives where those through a point are taken.
+fn point_share(block: &Block, x: u8) -> u64
+    ensures { result ≡ (if has_point block.now x then 1 else 0) }
+{
+    points_are_tested();
+    u64::from(block.has(x))
 }

@@ -4,6 +4,8 @@
 mod arena;
 mod children;
 mod copying;
+mod counts;
+pub mod laws;
 mod limits;
 mod numbers;
 mod plans;

@@ -1,20 +1,24 @@
-ghost use Rattle.std.specs.Prelude.{◌≡◌, ℕ, ◌<◌, ◌≤◌, ◌++◌, length, OnErr, OnOk};
+ghost use Rattle.std.specs.Prelude.{◌≡◌, ℕ, ◌*◌, ◌^◌, ◌<◌, ◌≤◌, ◌++◌, length, IfOk, OnErr, OnOk};
 ghost use Rattle.std.specs.List.{AllByRecursion};
 ghost use Rattle.lj_base.specs.Blocks.{Covers};
 ghost use Rattle.lj_cover.specs.Derivations.{IsDerivation, IsFrom, expand, root_cell, tree_cost};
 ghost use Rattle.lj_cover.specs.Rules.{IsCovering};
 ghost use Rattle.lj_deriv.specs.Nodes.{plan_tree, step_tree, steps_of};
 ghost use Rattle.lj_deriv.specs.Plans.{IsNamed, IsWhole};
+ghost use Rattle.lj_deriv.specs.Positions.{before, source_at, tree_share, tree_source};
 ghost use Rattle.lj_deriv.specs.Texts.{Spelled, plan_text};
 ghost use Rattle.lj_deriv.specs.Trees.{children_of, rule_at, upload_at};
 ghost use Rattle.lj_deriv.specs.Validity.{AreValid, IsNode};
+ghost use Rattle.lj_upload.specs.Uploads.{IsAccepted};
 
 use crate::arena::Arena;
+use crate::counts::{Counts, counts_of};
 use crate::numbers::Numbers;
 use crate::rules::Rule;
-use lj_base::{COST_LIMIT, Cell};
+use lj_base::{Block, COST_LIMIT, Cell, Memory};
 use lj_cover::laws::expansion_covers;
 use lj_upload::Accepted;
+use std::alloc::Global;
 use std::marker::Model;
 
 /// The derivation of one node, which stands alone. Its nodes are numbered from 0; the last is the root, and each other
@@ -22,26 +26,64 @@ use std::marker::Model;
 #[derive(Drop)]
 pub struct Plan {
     arena: Arena,
+    starts: Vec<u64>,
+    counts: Vec<u64>,
 }
 
 impl Model for Plan {
+    ghost use Rattle.std.specs.Prelude.{length};
     ghost use Rattle.lj_deriv.specs.Nodes.{Steps, steps_of};
     ghost use Rattle.lj_deriv.specs.Plans.{IsWhole};
+    ghost use Rattle.lj_deriv.specs.Positions.{AreCounted};
 
     ghost Value = { Steps };
 
     ghost view = { λ p. steps_of p.arena };
 
-    ghost invariant = { λ p. IsWhole (steps_of p.arena) };
+    ghost invariant = { λ p. IsWhole (steps_of p.arena)
+        × AreCounted (steps_of p.arena) (length p.arena.rules) p.starts.items p.counts.items };
 }
 
 impl Plan {
-    /// Takes nodes that stand alone.
-    pub(crate) fn of(arena: Arena) -> Plan
+    /// Takes nodes that stand alone, and makes their running counts.
+    pub(crate) fn of(alloc: Global, arena: Arena) -> Result<Plan, Memory>
         requires { IsWhole (steps_of arena) }
-        ensures { result ≡ steps_of arena }
+        ensures { IfOk result (λ p. p ≡ steps_of arena) }
     {
-        Plan { arena }
+        let Counts { starts, counts } = counts_of(alloc, &arena)?;
+        Ok(Plan {
+            arena,
+            starts,
+            counts,
+        })
+    }
+
+    /// The blocks of the upload that a node's rule goes through, each of which gives blocks of its own; none where the
+    /// rule goes through no upload.
+    pub fn source(&self, i: u64) -> &[Block]
+        requires { i < length self.now.rules }
+        ensures { result.now ≡ tree_source (step_tree self.now i) }
+    {
+        self.arena.source(i)
+    }
+
+    /// How many blocks the block at a place of a node's source gives.
+    pub fn share(&self, i: u64, place: u64) -> u64
+        requires there { i < length self.now.rules }
+        requires inside { place < length (tree_source (step_tree self.now i)) }
+        ensures { result ≡ tree_share (step_tree self.now i) (source_at (step_tree self.now i) place) }
+    {
+        self.arena.share(i, place)
+    }
+
+    /// How many blocks the first 64 times `j` blocks of a node's source give. It is looked up.
+    pub fn before(&self, i: u64, j: u64) -> u64
+        requires there { i < length self.now.rules }
+        requires inside { 64 * j ≤ length (tree_source (step_tree self.now i)) }
+        ensures { result ≡ before (step_tree self.now i) (64 * j) }
+    {
+        let start = self.starts[i as usize];
+        self.counts[(start + j) as usize]
     }
 
     /// The cell of the derivation.
@@ -114,10 +156,12 @@ impl Plan {
         self.arena.cost(i)
     }
 
-    /// The uploads that its rules name, each once.
+    /// The uploads that its rules name. Each is named by a rule of a node.
     pub fn uploads(&self) -> &[Accepted]
         ensures uploads { result.now ≡ self.now.uploads }
         ensures covering { AllByRecursion IsCovering self.now.uploads }
+        ensures accepted { AllByRecursion IsAccepted self.now.uploads }
+        ensures ordinals { AllByRecursion (λ u. u.ordinal < 2 ^ 64) self.now.uploads }
         ensures named { (u : ℕ) → u < length self.now.uploads → IsNamed self.now u }
     {
         self.arena.uploads()

@@ -1,7 +1,11 @@
+pub mod Arms
 pub mod Children
 pub mod CutLists
+pub mod Joins
 pub mod Noting
 pub mod Parts
 pub mod Placed
 pub mod Ranked
 pub mod Rows
+pub mod Spots
+pub mod Texts

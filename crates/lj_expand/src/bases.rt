@@ -37,8 +37,8 @@ pub(crate) fn runs_design(alloc: Global, cell: Cell) -> Result<Design, Memory>
     Ok(Design::of(cell, blocks))
 }
 
-// The run number `i`, from 0: its points below `v`, filled to `k`.
-fn run_of(v: u64, k: u64, i: u64) -> Block
+/// The run number `i`, from 0: its points below `v`, filled to `k`.
+pub(crate) fn run_of(v: u64, k: u64, i: u64) -> Block
     requires few { v ≤ 99 }
     requires room { k ≤ v }
     requires short { k ≤ 25 }
@@ -49,8 +49,8 @@ fn run_of(v: u64, k: u64, i: u64) -> Block
     fill(points_between(first, v.min(first + k)), v, k)
 }
 
-// The block of the points from `first` on and before `end`.
-fn points_between(first: u64, end: u64) -> Block
+/// The block of the points from `first` on and before `end`.
+pub(crate) fn points_between(first: u64, end: u64) -> Block
     requires order { first ≤ end }
     requires few { end ≤ 99 }
     requires short { end ≤ first + 25 }
@@ -83,8 +83,8 @@ pub(crate) fn all_design(alloc: Global, cell: Cell) -> Result<Design, Memory>
     Ok(Design::of(cell, blocks))
 }
 
-// The set as a block.
-fn block_of(set: &TSet) -> Block
+/// The set as a block.
+pub(crate) fn block_of(set: &TSet) -> Block
     ensures { result ≡ set.now }
 {
     let mut block = Block::empty();

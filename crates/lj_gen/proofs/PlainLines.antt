@@ -1,11 +1,14 @@
 -- The lines of the script are plain.
-use Rattle.std.proofs.Common.{◌≡◌, ℕ, suc, ◌^◌, ◌<◌, ◌≤◌, List, [], ◌∷◌, ◌++◌, codes, decimal, length, map, refl, arith}
+use Rattle.std.proofs.Common.{◌≡◌, ℕ, suc, ◌^◌, ◌<◌, ◌≤◌, List, [], ◌∷◌, ◌++◌, codes, decimal, length, map, refl}
+use Rattle.std.proofs.Common.{arith, false}
+use Rattle.std.proofs.lemmas.Bool.{or_parts}
 use Rattle.std.proofs.lemmas.List.{length-map}
-use Rattle.std.specs.List.{AllByRecursion}
+use Rattle.std.specs.List.{AllByRecursion, list_any}
+use Rattle.lj_base.proofs.Lists.{AllByRecursion-weaker}
 use Rattle.lj_base.specs.Blocks.{AreBlocks, Ascends, IsBlock}
 use Rattle.lj_base.specs.Cells.{IsCell, Triple}
-use Rattle.lj_text.specs.Lines.{IsPlain}
-use Rattle.lj_text.specs.Tokens.{ArePlainWords, IsPlainWord, join_by_space}
+use Rattle.lj_text.specs.Lines.{IsPlain, is_blank}
+use Rattle.lj_text.specs.Tokens.{ArePlainWords, IsPlainWord, IsWord, is_separator, join_by_space, words_of}
 use Rattle.lj_blockfile.specs.BlockLines.{block_line}
 use Rattle.lj_gen.specs.Generated.{cell_line, derived_cell, frame_cell, head_lines, tail_lines, upload_cell}
 
@@ -26,6 +29,19 @@ DecimalLaw = (n : ℕ) → n < 2 ^ 64 → IsPlainWord (decimal n)
 -- plain words that are joined by spaces are a plain line
 abbrev pub PlainLaw : Type 0
 PlainLaw = (ws : List (List ℕ)) → ArePlainWords ws → IsPlain (join_by_space ws)
+
+not_blank : (bytes : List ℕ) → list_any is_separator bytes ≡ false
+    → AllByRecursion (λ byte. is_blank byte ≡ false) bytes
+not_blank [] h = tt
+not_blank (b ∷ bs) h =
+    let parts = or_parts _ _ h in
+    ((or_parts _ _ parts.0).0, not_blank bs parts.1)
+
+-- plain words that are joined by spaces are the words of the line
+pub words_joined : ((ws : List (List ℕ)) → AllByRecursion IsWord ws → words_of (join_by_space ws) ≡ ws)
+    → (ws : List (List ℕ)) → AllByRecursion IsPlainWord ws → words_of (join_by_space ws) ≡ ws
+words_joined law ws h =
+    law ws (AllByRecursion-weaker IsPlainWord IsWord ws (λ w plain. (plain.0, not_blank w plain.1)) h)
 
 module _ (word : DecimalLaw) where
   pub are_points : (lo v : ℕ) (b : List ℕ) → v ≤ 99 → Ascends lo v b

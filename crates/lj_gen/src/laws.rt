@@ -7,7 +7,7 @@ ghost use Rattle.lj_gen.specs.Generated.{gen_text, gen_value, upload_cell};
 ghost use Rattle.lj_gen.specs.Quadruples.{IsLexicographicallyBefore, gen_blocks, xor_of};
 
 use lj_blockfile::written_law;
-use lj_text::{decimal_law, lines_law, words_law};
+use lj_text::{decimal_law, lines_law, tokens_law, words_law};
 
 /// The generated blocks are all quadruples of points with xor 0, each once, in lexicographic order. With `V = 2 ^ m`
 /// they are `V (V-1) (V-2) / 24` many, and each three points are in one of them: a Steiner quadruple system.
@@ -24,6 +24,7 @@ pub(crate) fn generated_law()
     ensures blocks { (m : ℕ) → 2 ≤ m → m ≤ 6 → AreBlocksOf (blocks_text (gen_blocks m)) (2 ^ m) 4 (gen_blocks m) }
 {
     decimal_law();
+    tokens_law();
     words_law();
     lines_law();
     written_law();

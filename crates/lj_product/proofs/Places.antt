@@ -2,10 +2,10 @@
 use Rattle.std.proofs.Common.{◌≡◌, ℕ, ◌+◌, ◌-◌, ◌*◌, ◌<◌, ◌≤◌, ◌^◌, List, length, get_or, sym, ap, ap₂, subst, arith}
 use Rattle.std.proofs.lemmas.Nat.{mul-le}
 use Rattle.lj_base.specs.Bounds.{AreBounds, at_cell}
-use Rattle.lj_base.specs.Cells.{Triple}
+use Rattle.lj_base.specs.Cells.{IsCell, Triple}
 use Rattle.lj_base.specs.Colex.{choose}
 use Rattle.lj_base.specs.Frames.{InFrame, Top, cells_before_k, cells_before_v, index_of, size_of}
-use Rattle.lj_base.specs.declared.limits.TheConstants.{COST_LIMIT}
+use Rattle.lj_base.specs.declared.limits.TheConstants.{COST_LIMIT, MAX_CELLS}
 use Rattle.lj_cover.specs.Rules.{Part, triple}
 use Rattle.lj_product.specs.declared.sides.Sides.{Sides}
 use Rattle.lj_product.specs.Parts.{IsPart, part_price}
@@ -58,7 +58,7 @@ number_at f numbers v k t base offset h i = ap (λ n. get_or numbers n 0) (place
 -- the place of a part's first cell among the numbers, and of its second
 pub record HasPlace (numbers : List ℕ) (place : ℕ) : Type 0 where
   pub inside : place < length numbers
-  pub few : place ≤ 100 * (26 * 9) + 8
+  pub few : place < MAX_CELLS
 
 pub first_place : (f : Top) (numbers offsets : List ℕ) (s : Sides) (p : Part) → HasPrices f numbers s
     → AreOffsets f offsets
@@ -66,12 +66,9 @@ pub first_place : (f : Top) (numbers offsets : List ℕ) (s : Sides) (p : Part) 
 first_place f numbers offsets s p h o sides i =
     let c = triple s.v1 p.l p.b in
     let in' = first_inside f (cell_of s) s.v1 p sides.inside sides.first_side sides.second_side i in
-    let place = place_of f s.v1 p.l p.b s.first _ sides.first (o.count p.l in'.k) in
-    let sets = in'.cell.5 in
-    record {
-      inside = subst (λ n. n < length numbers) (sym place) (h.places c in');
-      few = omega (arith, sides.few.0, o.few p.l, sets);
-    }
+    let place = place_of f s.v1 p.l p.b s.first _ sides.first (o p.l (omega (arith, in'.cell.4))) in
+    let inside = subst (λ n. n < length numbers) (sym place) (h.places c in') in
+    record { inside = inside; few = omega (arith, inside, h.few) }
 
 pub second_place : (f : Top) (numbers offsets : List ℕ) (s : Sides) (p : Part) → HasPrices f numbers s
     → AreOffsets f offsets
@@ -80,12 +77,11 @@ pub second_place : (f : Top) (numbers offsets : List ℕ) (s : Sides) (p : Part)
 second_place f numbers offsets s p h o sides i =
     let c = triple (s.v - s.v1) (s.k - p.l) (s.t - p.a) in
     let in' = second_inside f (cell_of s) s.v1 p sides.inside sides.first_side sides.second_side i in
-    let place = place_of f (s.v - s.v1) (s.k - p.l) (s.t - p.a) s.second _ sides.second (o.count (s.k - p.l) in'.k) in
-    let sets = in'.cell.5 in
-    record {
-      inside = subst (λ n. n < length numbers) (sym place) (h.places c in');
-      few = omega (arith, sides.few.1, o.few (s.k - p.l), sets);
-    }
+    let place =
+    place_of f (s.v - s.v1) (s.k - p.l) (s.t - p.a) s.second _ sides.second (o (s.k - p.l) (omega (arith, in'.cell.4)))
+    in
+    let inside = subst (λ n. n < length numbers) (sym place) (h.places c in') in
+    record { inside = inside; few = omega (arith, inside, h.few) }
 
 module _ (most : (a s b u : ℕ) → choose a s * choose b u ≤ choose (a + b) (s + u))
     (fits : (a s b u : ℕ) → a + b ≤ 99 → s ≤ 8 → u ≤ 8 → choose a s * choose b u < 2 ^ 61)
@@ -122,8 +118,11 @@ module _ (most : (a s b u : ℕ) → choose a s * choose b u ≤ choose (a + b) 
       let low = cell_fits s.v s.t cell.1 cell.5 in
       omega (arith, below_sets p i, most s.v1 p.b (s.v - s.v1) (s.t - p.a), whole, low)
 
-  pub has_prices : ((c : Triple) → InFrame f c → index_of f c < size_of f) → HasPrices f numbers s
-  has_prices below = record {
+  pub has_prices : ((c : Triple) → InFrame f c → index_of f c < size_of f)
+      → ((f : Top) → IsCell f.top → size_of f ≤ MAX_CELLS)
+      → HasPrices f numbers s
+  has_prices below size = record {
+    few = omega (arith, b.count, size f sides.limits);
     places = λ c inside. subst (λ n. index_of f c < n) (sym b.count) (below c inside);
     small = small;
     single = single;

@@ -117,25 +117,25 @@ pub tails_more : (bounds : Triple → ℕ) (c : Triple) (v1 a from r : ℕ) (tai
 tails_more bounds c v1 a from r tails inside most from_is h b = record {
   end_is = same (min c.t v1 + 1) (omega arith) ∙ b.end_is;
   least = λ p i more.
-      let behind = same (p.b + 1) (omega (arith, i.order)) in
+      let after = same (p.b + 1) (omega (arith, i.order)) in
       ⊎_elim
       (λ (e : p.a ≡ a). let here = ap (λ n. get_or (set tails a r) n 0) e in
-      omega (arith, here, own, behind, h.least p i e (omega (arith, i.to))))
-      (λ other. let here = same p.a (omega arith) in omega (arith, here, behind, b.least p i (omega arith)))
+      omega (arith, here, own, after, h.least p i e (omega (arith, i.to))))
+      (λ other. let here = same p.a (omega arith) in omega (arith, here, after, b.least p i (omega arith)))
       (cases_eq p.a a);
   taken = λ n more less. ⊎_elim
       (λ (e : n ≡ a).
       let p = h.taken.0 in
       let order = h.taken.1.order in
-      let behind = same (p.b + 1) (omega (arith, order, h.taken.2)) in
+      let after = same (p.b + 1) (omega (arith, order, h.taken.2)) in
       let here = ap (λ n. get_or (set tails a r) n 0) e in
-      (p, h.taken.1, h.taken.2 ∙ sym e, here ∙ own ∙ h.taken.3 ∙ ap (λ m. part_price bounds c v1 p + m) (sym behind)))
+      (p, h.taken.1, h.taken.2 ∙ sym e, here ∙ own ∙ h.taken.3 ∙ ap (λ m. part_price bounds c v1 p + m) (sym after)))
       (λ other.
       let old = b.taken n (omega arith) less in
       let order = old.1.order in
-      let behind = same (old.0.b + 1) (omega (arith, order, old.2)) in
+      let after = same (old.0.b + 1) (omega (arith, order, old.2)) in
       let here = same n (omega arith) in
-      (old.0, old.1, old.2, here ∙ old.3 ∙ ap (λ m. part_price bounds c v1 old.0 + m) (sym behind)))
+      (old.0, old.1, old.2, here ∙ old.3 ∙ ap (λ m. part_price bounds c v1 old.0 + m) (sym after)))
       (cases_eq n a);
 }
   where

@@ -1,9 +1,9 @@
 -- Two sides of a cell's points, with what the search for the cheapest product keeps.
 use Rattle.std.specs.Prelude.{◌≡◌, ℕ, ◌+◌, ◌-◌, ◌*◌, ◌^◌, ◌<◌, ◌≤◌, List, length, slice_index}
 use Rattle.lj_base.specs.Bounds.{at_cell}
-use Rattle.lj_base.specs.Cells.{Triple}
+use Rattle.lj_base.specs.Cells.{IsCell, Triple}
 use Rattle.lj_base.specs.Frames.{InFrame, Top, cells_before_k, cells_before_v, index_of}
-use Rattle.lj_base.specs.declared.limits.TheConstants.{COST_LIMIT}
+use Rattle.lj_base.specs.declared.limits.TheConstants.{COST_LIMIT, MAX_CELLS}
 use Rattle.lj_cover.specs.Rules.{Part, triple}
 use Rattle.lj_product.specs.Parts.{IsPart, part_price}
 use Rattle.lj_product.specs.declared.sides.Sides.{Sides}
@@ -13,21 +13,21 @@ cell_of s = triple s.v s.k s.t
 
 -- both sides of a cell of the frame have points, and the cells with as many begin at these places
 pub record AreSides (frame : Top) (s : Sides) : Type 0 where
+  pub limits : IsCell frame.top
   pub inside : InFrame frame (cell_of s)
   pub first_side : 1 ≤ s.v1
   pub second_side : s.v1 < s.v
   pub first : s.first ≡ cells_before_v frame s.v1
   pub second : s.second ≡ cells_before_v frame (s.v - s.v1)
-  pub few : (s.first ≤ 99 * (26 * 9)) × (s.second ≤ 99 * (26 * 9))
 
--- for each k of the frame the number of cells with one v whose k is lower
-pub record AreOffsets (frame : Top) (offsets : List ℕ) : Type 0 where
-  pub count : (k : ℕ) → k ≤ frame.top.k → slice_index offsets k ≡ cells_before_k frame k
-  pub few : (k : ℕ) → slice_index offsets k ≤ 26 * 9
+-- for each k the number of cells with one v whose k is lower
+abbrev pub AreOffsets : Top → List ℕ → Type 0
+AreOffsets frame offsets = (k : ℕ) → k ≤ 26 → slice_index offsets k ≡ cells_before_k frame k
 
--- the numbers have a place for each cell of the frame, and by them the parts with these sides have prices that can be
--- summed up
+-- the numbers, which are few, have a place for each cell of the frame, and by them the parts with these sides have
+-- prices that can be summed up
 pub record HasPrices (frame : Top) (numbers : List ℕ) (s : Sides) : Type 0 where
+  pub few : length numbers ≤ MAX_CELLS
   pub places : (c : Triple) → InFrame frame c → index_of frame c < length numbers
   pub small : (p : Part) → IsPart (cell_of s) s.v1 p → part_price (at_cell frame numbers) (cell_of s) s.v1 p < 2 ^ 61
   pub single : (p : Part) → IsPart (cell_of s) s.v1 p → p.a ≡ p.b

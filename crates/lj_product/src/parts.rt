@@ -11,7 +11,7 @@ use lj_base::{COST_LIMIT, Frame};
 fn price_at(
     frame: Frame,
     bounds: &[u64],
-    offsets: &[usize; 26],
+    offsets: &[usize; 27],
     s: Sides,
     a: usize,
     b: usize,
@@ -34,7 +34,7 @@ fn price_at(
 fn least_over_points(
     frame: Frame,
     bounds: &[u64],
-    offsets: &[usize; 26],
+    offsets: &[usize; 27],
     s: Sides,
     a: usize,
     b: usize,
@@ -65,7 +65,7 @@ fn least_over_points(
 fn least_starting_at(
     frame: Frame,
     bounds: &[u64],
-    offsets: &[usize; 26],
+    offsets: &[usize; 27],
     s: Sides,
     a: usize,
     tails: &[u64; 10],
@@ -95,7 +95,7 @@ fn least_starting_at(
 }
 
 /// The tails, from the greatest number of points that a set can have on the first side down to the least.
-pub fn least_tails(frame: Frame, bounds: &[u64], offsets: &[usize; 26], s: Sides) -> [u64; 10]
+pub fn least_tails(frame: Frame, bounds: &[u64], offsets: &[usize; 27], s: Sides) -> [u64; 10]
     requires numbers { HasPrices frame bounds.now s }
     requires offsets { AreOffsets frame offsets.now }
     requires sides { AreSides frame s }
@@ -117,7 +117,7 @@ pub fn least_tails(frame: Frame, bounds: &[u64], offsets: &[usize; 26], s: Sides
 fn points_at_price(
     frame: Frame,
     bounds: &[u64],
-    offsets: &[usize; 26],
+    offsets: &[usize; 27],
     s: Sides,
     a: usize,
     b: usize,
@@ -148,7 +148,7 @@ fn points_at_price(
 pub fn part_at_price(
     frame: Frame,
     bounds: &[u64],
-    offsets: &[usize; 26],
+    offsets: &[usize; 27],
     s: Sides,
     a: usize,
     tails: &[u64; 10],

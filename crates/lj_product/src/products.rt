@@ -9,7 +9,7 @@ ghost use Rattle.lj_product.specs.Sides.{AreOffsets, AreSides, cell_of};
 
 use crate::choices::{PartChoice, ProductChoice};
 use crate::parts::{least_tails, part_at_price};
-use crate::sides::{Sides, row_offsets};
+use crate::sides::Sides;
 use lj_base::{Cell, Frame, choose_law, choose_product_law, index_law};
 
 /// The product of least price at the cell: over all ways to split its points in two, to cut the numbers of points that
@@ -26,7 +26,7 @@ pub fn best_product(frame: Frame, bounds: &[u64], cell: Cell) -> Option<ProductC
     if v < 2 {
         return None;
     }
-    let offsets = row_offsets(frame);
+    let offsets = frame.row_offsets();
     let v1 = least_split(frame, bounds, &offsets, v, k, t);
     Some(choice_with(frame, bounds, &offsets, Sides::of(frame, v, k, t, v1)))
 }
@@ -45,7 +45,7 @@ fn numbers_of(frame: Frame, cell: Cell) -> (usize, usize, usize)
 fn least_split(
     frame: Frame,
     bounds: &[u64],
-    offsets: &[usize; 26],
+    offsets: &[usize; 27],
     v: usize,
     k: usize,
     t: usize,
@@ -74,7 +74,7 @@ fn least_split(
 }
 
 // The least price of a product with these sides.
-fn least_with(frame: Frame, bounds: &[u64], offsets: &[usize; 26], s: Sides) -> u64
+fn least_with(frame: Frame, bounds: &[u64], offsets: &[usize; 27], s: Sides) -> u64
     requires bounds { AreBounds frame bounds.now }
     requires offsets { AreOffsets frame offsets.now }
     requires sides { AreSides frame s }
@@ -91,7 +91,7 @@ fn least_with(frame: Frame, bounds: &[u64], offsets: &[usize; 26], s: Sides) -> 
 }
 
 // A product of least price with these sides.
-fn choice_with(frame: Frame, bounds: &[u64], offsets: &[usize; 26], s: Sides) -> ProductChoice
+fn choice_with(frame: Frame, bounds: &[u64], offsets: &[usize; 27], s: Sides) -> ProductChoice
     requires bounds { AreBounds frame bounds.now }
     requires offsets { AreOffsets frame offsets.now }
     requires sides { AreSides frame s }

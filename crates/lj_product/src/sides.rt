@@ -1,8 +1,7 @@
-ghost use Rattle.std.specs.Prelude.{◌≡◌, ℕ, ◌-◌, ◌<◌, ◌≤◌, slice_index};
-ghost use Rattle.lj_base.specs.Cells.{IsCell};
+ghost use Rattle.std.specs.Prelude.{◌≡◌, ◌-◌, ◌<◌, ◌≤◌};
 ghost use Rattle.lj_base.specs.Frames.{InFrame};
 ghost use Rattle.lj_cover.specs.Rules.{triple};
-ghost use Rattle.lj_product.specs.Sides.{AreOffsets, AreSides, cell_of};
+ghost use Rattle.lj_product.specs.Sides.{AreSides, cell_of};
 
 use lj_base::Frame;
 
@@ -27,6 +26,7 @@ impl Sides {
         ensures cell { cell_of result ≡ triple v k t }
         ensures v1 { result.v1 ≡ v1 }
     {
+        let _ = frame.top.v;
         Sides {
             v,
             k,
@@ -36,17 +36,4 @@ impl Sides {
             second: frame.cells_before_v((v - v1) as u8) as usize,
         }
     }
-}
-
-/// For each k of the frame the number of cells with one v whose k is lower. With the index of the first cell with a v
-/// and with t it makes a cell's index.
-pub fn row_offsets(frame: Frame) -> [usize; 26]
-    requires { IsCell frame.top }
-    ensures { AreOffsets frame result }
-{
-    let mut offsets = [0; 26];
-    for k in 0..frame.top.k as usize + 1 {
-        offsets[k] = frame.cells_before_k(k as u8) as usize;
-    }
-    offsets
 }

@@ -94,7 +94,7 @@ agree-both v s t hs ht rest same =
       λ less. Precedes-push v s t ht ((rest long).1 (omega (arith, less, top, first, second))),
     )
 
--- of two sets of as many points, the one of the lower rank stands before the other
+-- of two sets of the same size, the one of the lower rank stands before the other
 pub Precedes-rank : (v : ℕ) (s t : List ℕ) → Ascends 0 v s → Ascends 0 v t → Agree s t
 Precedes-rank zero [] [] hs ht same = (λ h. absurd h.later_has, λ less. absurd (omega arith))
 Precedes-rank zero [] (y ∷ ys) hs ht same = absurd (omega arith)

@@ -8,7 +8,7 @@ ghost use Rattle.lj_rank.specs.Ranks.{IsFirstFrom, IsFirstRun, IsSubset, rank_of
 use crate::sets::TSet;
 use lj_base::{Block, binom, choose_law};
 
-/// The number of sets of as many points that stand before this one. Cost: one binomial for each point.
+/// The number of sets of the same size that stand before this one. Cost: one binomial for each point.
 pub fn rank(set: &TSet) -> u64
     ensures sum { result ≡ rank_of set.now }
     ensures place { (v : ℕ) → Ascends 0 v set.now → slice_get (sets v (length set.now)) result ≡ Some set.now }
@@ -42,7 +42,7 @@ pub fn unrank(v: u64, t: u64, r: u64) -> TSet
     set
 }
 
-/// Makes the set the next one of as many points below `v`. Returns false, and the set stays, where it is the last.
+/// Makes the set the next one of the same size below `v`. Returns false, and the set stays, where it is the last.
 /// Cost: a few steps for each point of the set.
 pub fn next(v: u64, set: &mut TSet) -> bool
     requires few_points { v ≤ 99 }

@@ -2,6 +2,7 @@ pub mod Accepting
 pub mod Ageing
 pub mod AllSets
 pub mod CellOrder
+pub mod Fixing
 pub mod FrameReaders
 pub mod Listing
 pub mod Merging

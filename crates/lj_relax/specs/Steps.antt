@@ -122,3 +122,10 @@ pub record IsRead (s : State) (c : Triple) (bound : ℕ) (n : State) : Type 0 wh
   pub inside : InFrame s.frame c
   pub bound_is : bound ≡ s.bounds c
   pub state : n ≡ s
+
+-- the two states have the same frame and the same uploads, and on the frame the same bounds and the same open cells
+pub record SameOnFrame (s n : State) : Type 0 where
+  pub frame : n.frame ≡ s.frame
+  pub uploads : n.uploads ≡ s.uploads
+  pub bounds : (c : Triple) → InFrame s.frame c → n.bounds c ≡ s.bounds c
+  pub pending : (c : Triple) → InFrame s.frame c → n.pending c ≡ s.pending c

@@ -10,8 +10,8 @@ use crate::tickets::first_cell;
 use lj_base::{Cell, Frame, cells_law, index_order_law};
 use std::marker::Model;
 
-/// A walk through the cells of a frame that read a cell, in index order, seen as those that are left. Each step compares
-/// a few numbers, whatever the size of the frame.
+/// A walk through the cells of a frame that read a cell, in index order, seen as those that are left. Each step
+/// compares a few numbers, whatever the size of the frame.
 #[derive(Drop)]
 pub struct Dependents {
     frame: Frame,

@@ -2,11 +2,12 @@
 
 ghost use Rattle.std.specs.Prelude.{◌≡◌, ℕ, ◌≤◌, Bool, false, Option};
 ghost use Rattle.lj_base.specs.Cells.{Triple};
-ghost use Rattle.lj_base.specs.Frames.{InFrame};
+ghost use Rattle.lj_base.specs.Frames.{InFrame, Top};
 ghost use Rattle.lj_cover.specs.Derivations.{IsLeast};
 ghost use Rattle.lj_cover.specs.Rules.{IsCovering, Upload};
 ghost use Rattle.lj_relax.specs.States.{Good, State};
 ghost use Rattle.lj_relax.specs.Steps.{Accepts, Agrees, Claims, IsLeastPrice, IsOld, IsRead, Publishes, Snapshot};
+ghost use Rattle.lj_relax.specs.Steps.{SameOnFrame};
 
 use lj_cover::laws::{
     bases_have_no_children, costs_are_positive, derivations_stay_inside, induced_has_instances,
@@ -76,4 +77,15 @@ pub fn bounds_do_not_rise()
         → Publishes s a best lowered agreed n → (c : Triple) → InFrame s.frame c → n.bounds c ≤ s.bounds c }
     ensures claimed { (s n : State) (a : Snapshot) → Claims s a n → n ≡ s }
     ensures read { (s n : State) (c : Triple) (bound : ℕ) → IsRead s c bound n → n ≡ s }
+{}
+
+/// A step fixes the next state: a snapshot has one least price, or none; two states to which the same accepted upload
+/// leads are the same on the frame; and so are two to which a publication leads, which lower and close alike.
+pub fn steps_fix_the_next_state()
+    ensures price { (frame : Top) (a : Snapshot) (best other : Option ℕ) → IsLeastPrice frame a best
+        → IsLeastPrice frame a other → best ≡ other }
+    ensures accepted { (s m n : State) (u : Upload) → Accepts s u m → Accepts s u n → SameOnFrame m n }
+    ensures published { (s m n : State) (a : Snapshot) (best : Option ℕ) (lowered lower agreed agree : Bool)
+        → Publishes s a best lowered agreed m → Publishes s a best lower agree n
+        → (lower ≡ lowered) × (agree ≡ agreed) × SameOnFrame m n }
 {}

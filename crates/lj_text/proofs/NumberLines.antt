@@ -20,10 +20,6 @@ pub IsPlain-numbers : (ns : List ℕ) → 1 ≤ length ns → AllByRecursion (λ
 IsPlain-numbers [] some h = absurd (omega arith)
 IsPlain-numbers (n ∷ ns) some h = IsPlain-words (map decimal (n ∷ ns)) (omega arith, are_plain_numbers (n ∷ ns) h)
 
-pub IsPlain-small_numbers : (ns : List ℕ) → 1 ≤ length ns → AllByRecursion (λ n. n < 10 ^ 18) ns
-    → IsPlain (join_by_space (map decimal ns))
-IsPlain-small_numbers ns some h = IsPlain-numbers ns some (fit ns h)
-
 -- tokens whose texts are the decimal digits of numbers spell these
 spelled_by : (text : Token → List ℕ) (tokens : List Token) (ns : List ℕ) → AllByRecursion (λ n. n < 10 ^ 18) ns
     → map text tokens ≡ map decimal ns → AllZip (λ token n. number_of (text token) ≡ Some n) tokens ns

@@ -18,6 +18,6 @@ named word numbers = word ++ spaced (map decimal numbers)
 abbrev pub points_text : List ℕ → List ℕ
 points_text points = spaced (map (λ p. decimal (suc p)) points)
 
--- the text begins with what was there before: it is as it was, or a part of what was to be appended follows
+-- the text begins with what was there before
 abbrev pub Extends : List ℕ → List ℕ → Type 0
 Extends before text = take (length before) text ≡ before

@@ -21,8 +21,7 @@ pub enum ReadFail {
 /// The most bytes that one read takes from a source.
 pub const PIECE: usize = 65536;
 
-/// Reads a source to its end, up to `limit` bytes. It stops at the first read that fails, and at the first after which
-/// it has more than `limit` bytes.
+/// Reads a source to its end, up to `limit` bytes.
 pub fn read_all<S: Source>(alloc: Global, source: &mut S, limit: u64) -> Result<Vec<u8>, ReadFail>
     ensures bytes { IfOk result (λ bytes. IfSome (S.left source.old) (λ all. bytes.items ≡ all)) }
     ensures within { IfOk result (λ bytes. length bytes.items ≤ limit) }

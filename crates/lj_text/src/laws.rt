@@ -14,17 +14,16 @@ pub fn decimal_law()
     ensures value { (n : ℕ) → n < 10 ^ 18 → number_of (decimal n) ≡ Some n }
 {}
 
-/// Tokens stand within their line. Words that are joined by spaces are the tokens of the line that they make, in order.
+/// Tokens stand within their line. Words that are joined by spaces are the words of the line that they make, in order.
 pub fn tokens_law()
     ensures inside { (line : List ℕ) → AllByRecursion (IsTokenOf line) (tokens_of line) }
     ensures words { (ws : List (List ℕ)) → AllByRecursion IsWord ws → words_of (join_by_space ws) ≡ ws }
 {}
 
-/// Words without LF and CR that are joined by spaces are a plain line, whose words they are: so lines of such words
-/// read back. A number in decimal digits is such a word, and so are such words that a byte joins that is no separator.
+/// Words without LF and CR that are joined by spaces are a plain line, and lines of such words read back. A number in
+/// decimal digits is such a word, and so are such words that a byte joins that is no separator.
 pub fn words_law()
     ensures plain { (ws : List (List ℕ)) → ArePlainWords ws → IsPlain (join_by_space ws) }
-    ensures words { (ws : List (List ℕ)) → AllByRecursion IsPlainWord ws → words_of (join_by_space ws) ≡ ws }
     ensures reads_back { (lines : List (List (List ℕ))) → AllByRecursion ArePlainWords lines →
         (let bytes = with_feeds (map join_by_space lines) in map (words bytes) (text_lines bytes) ≡ lines) }
     ensures decimal { (n : ℕ) → n < 2 ^ 64 → IsPlainWord (decimal n) }
@@ -32,9 +31,9 @@ pub fn words_law()
         IsPlainWord (join_with_byte byte ws) }
 {}
 
-/// Numbers of at most 18 digits that are joined by spaces are a plain line, whose tokens spell them.
+/// Numbers that are joined by spaces are a plain line, whose tokens spell them where they have at most 18 digits.
 pub fn number_line_law()
-    ensures plain { (ns : List ℕ) → 1 ≤ length ns → AllByRecursion (λ n. n < 10 ^ 18) ns →
+    ensures plain { (ns : List ℕ) → 1 ≤ length ns → AllByRecursion (λ n. n < 2 ^ 64) ns →
         IsPlain (join_by_space (map decimal ns)) }
     ensures spelled { (ns : List ℕ) → AllByRecursion (λ n. n < 10 ^ 18) ns →
         (let line = join_by_space (map decimal ns) in Spells line (tokens_of line) ns) }
@@ -47,8 +46,7 @@ pub fn fields_law()
 {}
 
 /// Lines stand within their text, each after the one before. Plain lines with LF after each are the lines of the text
-/// that they make, in order. Numbers that are joined by spaces are a plain line. A plain line before LF is the first,
-/// and the others are those of what follows.
+/// that they make, in order. A plain line before LF is the first, and the others are those of what follows.
 pub fn lines_law()
     ensures inside { (bytes : List ℕ) → AllByRecursion (IsLineOf bytes) (text_lines bytes) }
     ensures order { (bytes : List ℕ) → StandFrom bytes 0 (text_lines bytes) }
@@ -56,8 +54,6 @@ pub fn lines_law()
         (let bytes = with_feeds lines in map (line_text bytes) (text_lines bytes) ≡ lines) }
     ensures places { (lines : List (List ℕ)) → AllByRecursion IsPlain lines →
         text_lines (with_feeds lines) ≡ placed_from 1 0 lines }
-    ensures numbers { (ns : List ℕ) → 1 ≤ length ns → AllByRecursion (λ n. n < 2 ^ 64) ns →
-        IsPlain (join_by_space (map decimal ns)) }
     ensures first { (line rest : List ℕ) → IsPlain line →
         text_lines (line ++ 10 ∷ rest)
         ≡ record { number = 1; start = 0; stop = length line } ∷ lines_from 2 (length line + 1) (cut_lines rest) }

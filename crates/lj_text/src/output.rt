@@ -17,7 +17,7 @@ pub fn write_all<K: Sink>(sink: &mut K, bytes: &[u8]) -> Result<(), WriteFault>
     ensures quiet { OnOk result (K.faults sink.new ≡ K.faults sink.old) }
     ensures fault { IfErr result (λ f. Rose (K.faults sink.old) (K.faults sink.new) × (f.count ≡ K.faults sink.new)) }
 
-    // What went out is a proper front of the bytes.
+    // The first bytes were written, and not all.
     ensures front { OnErr result ((n : ℕ) × (n < length bytes.now)
         × Appends (K.written sink.old) (K.written sink.new) (take n bytes.now)) }
 {

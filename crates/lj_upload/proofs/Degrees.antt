@@ -40,6 +40,7 @@ pair_least v x y n blocks table items same h least =
     let degree : (p q : ℕ) → p < q → entry items p q ≡ pair_degree_at blocks p q = λ p q order. ap
     (λ t. entry t p q) same ∙ h.each p q (omega arith) in
     record {
+      low = omega (arith, least.low);
       order = least.order;
       inside = omega (arith, least.inside);
       value = least.value ∙ degree x y least.order;

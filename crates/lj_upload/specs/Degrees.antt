@@ -16,6 +16,7 @@ PairBefore p q x y = (p < x) ⊎ ((p ≡ x) × (q < y))
 
 -- of the pairs below v with a lesser point below m, x and y are the first at which f is least, and f is n there
 pub record IsFirstLeastPair (m v : ℕ) (f : ℕ → ℕ → ℕ) (x y n : ℕ) : Type 0 where
+  pub low : x < m
   pub order : x < y
   pub inside : y < v
   pub value : n ≡ f x y

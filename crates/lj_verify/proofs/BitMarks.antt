@@ -9,7 +9,7 @@ use Rattle.std.proofs.lemmas.List.{length-set, get_or-set_same, get_or-set_other
 use Rattle.std.proofs.lemmas.Nat.Bits.{bit_at_or, bit_at-lt, bit_at_above, bit_at_cat_low, bit_at_cat_high, bit_at-zero}
 use Rattle.std.proofs.lemmas.Nat.Bits.{bit_at-suc, bit_at_set_same, bit_at_set_other}
 use Rattle.std.specs.Int.{bit_at, w64}
-use Rattle.lj_verify.specs.Marks.{IsAtBit, IsAtPoint, IsIn, Marks}
+use Rattle.lj_verify.specs.Marks.{IsAtBit, IsAtPoint, IsInWords, Marks}
 
 -- a bit of one number or of the other
 pub or_cases : (a b i : ℕ) → (bit_at (bit_or a b) i ≡ 1) ↔ ((bit_at a i ≡ 1) ⊎ (bit_at b i ≡ 1))
@@ -210,7 +210,7 @@ marks_low_points start rank low high a b none one =
 
 -- one more point
 pub in_low : (low high point : ℕ) → point < 64 → (p : ℕ)
-    → IsIn (bit_or low (1 * 2 ^ point % 2 ^ 64)) high p ↔ (IsIn low high p ⊎ (point ≡ p))
+    → IsInWords (bit_or low (1 * 2 ^ point % 2 ^ 64)) high p ↔ (IsInWords low high p ⊎ (point ≡ p))
 in_low low high point below p =
     ⊎_elim
     (λ same.
@@ -225,7 +225,7 @@ in_low low high point below p =
     (cases_eq point p)
 
 pub in_high : (low high point : ℕ) → 64 ≤ point → point < 99 → (p : ℕ)
-    → IsIn low (bit_or high (1 * 2 ^ (point - 64) % 2 ^ 64)) p ↔ (IsIn low high p ⊎ (point ≡ p))
+    → IsInWords low (bit_or high (1 * 2 ^ (point - 64) % 2 ^ 64)) p ↔ (IsInWords low high p ⊎ (point ≡ p))
 in_high low high point from below p =
     let within : point - 64 < 64 = omega arith in
     ⊎_elim

@@ -95,7 +95,7 @@ among_before laws b i v s q k within is = (
       let at = h.2 in
       let low : Ascends 0 v (take i b) = subst (λ p. Ascends 0 p (take i b)) (sym is)
       (Ascends-before 0 99 b i k within) in
-      let rank = laws.ranks.below v s t (laws.below v s (take i b) t low set, set.0.1) in (
+      let rank = laws.ranks.below v s t (laws.subsets.below v s (take i b) t low set, set.0.1) in (
         omega (arith, at, rank),
         (
           t,

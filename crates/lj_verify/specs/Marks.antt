@@ -37,12 +37,12 @@ IsBetween place shift string r = (place < r / 64) × (r / 64 < place + length st
     (slice_index string (r / 64 - place - 1) / 2 / 2 ^ (63 - shift))) (r % 64) ≡ 1)
 
 -- the point is one of those below 64 that the one number has, or of those from 64 on that the other has
-abbrev pub IsIn : ℕ → ℕ → ℕ → Type 0
-IsIn low high p = ((p < 64) × (bit_at low p ≡ 1)) ⊎ ((64 ≤ p) × (p < 128) × (bit_at high (p - 64) ≡ 1))
+abbrev pub IsInWords : ℕ → ℕ → ℕ → Type 0
+IsInWords low high p = ((p < 64) × (bit_at low p ≡ 1)) ⊎ ((64 ≤ p) × (p < 128) × (bit_at high (p - 64) ≡ 1))
 
 -- r is `rank` and one of the points
 abbrev pub IsAtPoint : ℕ → ℕ → ℕ → ℕ → Type 0
-IsAtPoint rank low high r = (p : ℕ) × IsIn low high p × (rank + p ≡ r)
+IsAtPoint rank low high r = (p : ℕ) × IsInWords low high p × (rank + p ≡ r)
 
 -- r is `rest` and the rank of a set of t points of the block
 abbrev pub IsRankAmong : List ℕ → ℕ → ℕ → ℕ → Type 0

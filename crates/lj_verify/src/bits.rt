@@ -2,6 +2,8 @@ ghost use Rattle.std.specs.Prelude.{◌≡◌, ℕ, ◌+◌, ◌-◌, ◌*◌, �
 ghost use Rattle.std.specs.Int.{bit_at};
 ghost use Rattle.lj_verify.specs.Marks.{IsAtBit, IsAtPrefix, IsBetween, Marks, shifted_word};
 
+use crate::limits::{MAX_WORDS, RANK_LIMIT};
+
 // Bits that are marked in the words of a range of ranks, of which the first has the ranks from `64 * start` on. What
 // lies outside the range is passed over.
 
@@ -9,9 +11,9 @@ ghost use Rattle.lj_verify.specs.Marks.{IsAtBit, IsAtPrefix, IsBetween, Marks, s
 /// word of the prefix that lies in the range.
 #[inline(always)]
 pub(crate) fn mark_prefix(words: &mut [u64], start: u64, rank: u64, string: &[u64], bits: u64)
-    requires few_words { start + length words.old ≤ 2 ^ 32 }
-    requires fits { rank ≤ 2 ^ 43 }
-    requires few { bits ≤ 2 ^ 38 }
+    requires few_words { start + length words.old ≤ MAX_WORDS }
+    requires fits { rank ≤ 2 * RANK_LIMIT }
+    requires few { bits ≤ 64 * MAX_WORDS }
     requires room { bits ≤ 64 * length string.now }
     ensures { Marks start words.old words.new (IsAtPrefix rank string.now bits) }
 {
@@ -27,9 +29,9 @@ pub(crate) fn mark_prefix(words: &mut [u64], start: u64, rank: u64, string: &[u6
 // Marks the prefix where a part of it may lie outside the range.
 #[inline(never)]
 fn mark_at_edge(words: &mut [u64], start: u64, rank: u64, string: &[u64], bits: u64)
-    requires few_words { start + length words.old ≤ 2 ^ 32 }
-    requires fits { rank ≤ 2 ^ 43 }
-    requires few { bits ≤ 2 ^ 38 }
+    requires few_words { start + length words.old ≤ MAX_WORDS }
+    requires fits { rank ≤ 2 * RANK_LIMIT }
+    requires few { bits ≤ 64 * MAX_WORDS }
     requires room { bits ≤ 64 * length string.now }
     ensures { Marks start words.old words.new (IsAtPrefix rank string.now bits) }
 {
@@ -39,9 +41,9 @@ fn mark_at_edge(words: &mut [u64], start: u64, rank: u64, string: &[u64], bits: 
 // Marks the prefix, word by word. In words that just hold it no test of a place is left after inlining.
 #[inline(always)]
 fn mark_each(words: &mut [u64], start: u64, rank: u64, string: &[u64], bits: u64)
-    requires few_words { start + length words.old ≤ 2 ^ 32 }
-    requires fits { rank ≤ 2 ^ 43 }
-    requires few { bits ≤ 2 ^ 38 }
+    requires few_words { start + length words.old ≤ MAX_WORDS }
+    requires fits { rank ≤ 2 * RANK_LIMIT }
+    requires few { bits ≤ 64 * MAX_WORDS }
     requires room { bits ≤ 64 * length string.now }
     ensures { Marks start words.old words.new (IsAtPrefix rank string.now bits) }
 {
@@ -59,10 +61,10 @@ fn mark_each(words: &mut [u64], start: u64, rank: u64, string: &[u64], bits: u64
 // Marks the rank of each bit of the string that is set.
 #[inline(always)]
 fn mark_words(words: &mut [u64], start: u64, rank: u64, string: &[u64])
-    requires few_words { start + length words.old ≤ 2 ^ 32 }
-    requires fits { rank ≤ 2 ^ 43 }
+    requires few_words { start + length words.old ≤ MAX_WORDS }
+    requires fits { rank ≤ 2 * RANK_LIMIT }
     requires some { 0 < length string.now }
-    requires few { length string.now ≤ 2 ^ 32 }
+    requires few { length string.now ≤ MAX_WORDS }
     ensures { Marks start words.old words.new (IsAtPrefix rank string.now (64 * length string.now)) }
 {
     let place = rank / 64;
@@ -81,10 +83,10 @@ fn mark_words(words: &mut [u64], start: u64, rank: u64, string: &[u64])
 // Marks what lies in the words that have bits of two words of the string.
 #[inline(always)]
 fn mark_between(words: &mut [u64], start: u64, place: u64, shift: u64, string: &[u64])
-    requires few_words { start + length words.old ≤ 2 ^ 32 }
-    requires fits { place ≤ 2 ^ 43 }
+    requires few_words { start + length words.old ≤ MAX_WORDS }
+    requires fits { place ≤ 2 * RANK_LIMIT }
     requires shift { shift < 64 }
-    requires few { length string.now ≤ 2 ^ 32 }
+    requires few { length string.now ≤ MAX_WORDS }
     ensures { Marks start words.old words.new (IsBetween place shift string.now) }
 {
     let from = (place + 1).max(start);
@@ -119,8 +121,8 @@ fn or_shifted(words: &mut [u64], upper: &[u64], lower: &[u64], shift: u64)
 // Marks the rank of each bit that is set, from the rank of bit 0.
 #[inline(always)]
 pub(crate) fn mark_bits(words: &mut [u64], start: u64, rank: u64, bits: u64)
-    requires few_words { start + length words.old ≤ 2 ^ 32 }
-    requires fits { rank ≤ 2 ^ 44 }
+    requires few_words { start + length words.old ≤ MAX_WORDS }
+    requires fits { rank ≤ 4 * RANK_LIMIT }
     ensures { Marks start words.old words.new (IsAtBit rank bits) }
 {
     mark_bits_at(words, start, rank / 64, rank % 64, bits);
@@ -129,7 +131,7 @@ pub(crate) fn mark_bits(words: &mut [u64], start: u64, rank: u64, bits: u64)
 // Marks the rank of each bit that is set, where bit 0 has the rank of a bit of the word at a place.
 #[inline(always)]
 fn mark_bits_at(words: &mut [u64], start: u64, place: u64, shift: u64, bits: u64)
-    requires few_words { start + length words.old ≤ 2 ^ 32 }
+    requires few_words { start + length words.old ≤ MAX_WORDS }
     requires fits { place ≤ 2 ^ 40 }
     requires shift { shift < 64 }
     ensures { Marks start words.old words.new (IsAtBit (64 * place + shift) bits) }
@@ -141,7 +143,7 @@ fn mark_bits_at(words: &mut [u64], start: u64, place: u64, shift: u64, bits: u64
 // Marks the bits of the word at a place.
 #[inline(always)]
 fn mark_in_word(words: &mut [u64], start: u64, place: u64, bits: u64)
-    requires few_words { start + length words.old ≤ 2 ^ 32 }
+    requires few_words { start + length words.old ≤ MAX_WORDS }
     ensures { Marks start words.old words.new (λ r. (r / 64 ≡ place) × (bit_at bits (r % 64) ≡ 1)) }
 {
     if start <= place && place - start < words.len() as u64 {

@@ -15,7 +15,7 @@ use std::alloc::Global;
 use std::thread::Threads;
 
 /// Whether the blocks cover the cell: each set that a block contains is marked in a bit map, and the first that is not
-/// marked is looked for. The answer does not depend on the number of workers.
+/// marked is looked for. The result does not depend on the number of workers.
 /// Cost: at most a few steps for each set of `t - 1` points of a block, and one for each 512 sets; a bit for each set,
 /// and for a small map as much again for each worker.
 pub fn check<R: Threads + Sync>(

@@ -1,11 +1,12 @@
-ghost use Rattle.std.specs.Prelude.{◌≡◌, ◌⊎◌, ◌↔◌, ℕ, ◌+◌, ◌*◌, ◌/◌, ◌%◌, ◌^◌, ◌<◌, ◌≤◌, length, take};
+ghost use Rattle.std.specs.Prelude.{◌≡◌, ◌⊎◌, ◌↔◌, ℕ, ◌+◌, ◌*◌, ◌/◌, ◌%◌, ◌<◌, ◌≤◌, length, take};
 ghost use Rattle.std.specs.Int.{bit_at};
 ghost use Rattle.lj_base.specs.Blocks.{Ascends};
-ghost use Rattle.lj_verify.specs.Marks.{IsAtPoint, IsIn, IsRankAmong, IsRankIn, Marks};
+ghost use Rattle.lj_verify.specs.Marks.{IsAtPoint, IsInWords, IsRankAmong, IsRankIn, Marks};
 
 use crate::bits::mark_bits;
 use crate::laws::set_laws;
-use lj_base::{Block, binom};
+use crate::limits::{MAX_WORDS, RANK_LIMIT};
+use lj_base::{Block, COST_LIMIT, binom};
 
 // Points below 128: bit p of `low` is point p, and bit p of `high` is point 64 + p.
 #[derive(Clone, Copy)]
@@ -19,7 +20,7 @@ struct PointBits {
 /// ranks of the range.
 pub(crate) fn mark_sets(words: &mut [u64], start: u64, blocks: &[Block], t: u64)
     requires small { t ≤ 8 }
-    requires few_words { start + length words.old ≤ 2 ^ 32 }
+    requires few_words { start + length words.old ≤ MAX_WORDS }
     ensures { Marks start words.old words.new (IsRankIn blocks.now t) }
 {
     for block in blocks {
@@ -30,7 +31,7 @@ pub(crate) fn mark_sets(words: &mut [u64], start: u64, blocks: &[Block], t: u64)
 // Marks the rank of each set of `t` points of the block.
 pub(crate) fn mark_block(words: &mut [u64], start: u64, block: &Block, t: u64)
     requires small { t ≤ 8 }
-    requires few_words { start + length words.old ≤ 2 ^ 32 }
+    requires few_words { start + length words.old ≤ MAX_WORDS }
     ensures { Marks start words.old words.new (IsRankAmong block.now t 0) }
 {
     set_laws();
@@ -47,7 +48,7 @@ pub(crate) fn mark_block(words: &mut [u64], start: u64, block: &Block, t: u64)
 
 // Marks the rank of each point of the block: the point itself.
 pub(crate) fn mark_points(words: &mut [u64], start: u64, block: &Block)
-    requires few_words { start + length words.old ≤ 2 ^ 32 }
+    requires few_words { start + length words.old ≤ MAX_WORDS }
     ensures { Marks start words.old words.new (IsRankAmong block.now 1 0) }
 {
     set_laws();
@@ -65,8 +66,8 @@ fn mark_among(words: &mut [u64], start: u64, block: &Block, n: u64, t: u64, rest
     requires enough { t ≤ n }
     requires within { n ≤ length block.now }
     requires ascends { Ascends 0 99 block.now }
-    requires few_words { start + length words.old ≤ 2 ^ 32 }
-    requires fits { rest + t * 2 ^ 38 ≤ 2 ^ 42 }
+    requires few_words { start + length words.old ≤ MAX_WORDS }
+    requires fits { rest + t * COST_LIMIT ≤ RANK_LIMIT }
     ensures { Marks start words.old words.new (IsRankAmong (take n block.now) t rest) }
 {
     set_laws();
@@ -89,8 +90,8 @@ fn mark_among(words: &mut [u64], start: u64, block: &Block, n: u64, t: u64, rest
 fn mark_pairs(words: &mut [u64], start: u64, block: &Block, n: u64, rest: u64)
     requires within { n ≤ length block.now }
     requires ascends { Ascends 0 99 block.now }
-    requires few_words { start + length words.old ≤ 2 ^ 32 }
-    requires fits { rest + 2 * 2 ^ 38 ≤ 2 ^ 42 }
+    requires few_words { start + length words.old ≤ MAX_WORDS }
+    requires fits { rest + 2 * COST_LIMIT ≤ RANK_LIMIT }
     ensures { Marks start words.old words.new (IsRankAmong (take n block.now) 2 rest) }
 {
     set_laws();
@@ -106,7 +107,7 @@ fn mark_pairs(words: &mut [u64], start: u64, block: &Block, n: u64, rest: u64)
 #[inline(always)]
 fn with_point(points: PointBits, point: u64) -> PointBits
     requires { point < 99 }
-    ensures { (p : ℕ) → IsIn result.low result.high p ↔ (IsIn points.low points.high p ⊎ (point ≡ p)) }
+    ensures { (p : ℕ) → IsInWords result.low result.high p ↔ (IsInWords points.low points.high p ⊎ (point ≡ p)) }
 {
     let PointBits { low, high } = points;
     if point < 64 {
@@ -125,8 +126,8 @@ fn with_point(points: PointBits, point: u64) -> PointBits
 // Marks the rank of each point, from the rank of point 0.
 #[inline(always)]
 fn mark_run(words: &mut [u64], start: u64, rank: u64, points: PointBits)
-    requires few_words { start + length words.old ≤ 2 ^ 32 }
-    requires fits { rank ≤ 2 ^ 43 }
+    requires few_words { start + length words.old ≤ MAX_WORDS }
+    requires fits { rank ≤ 2 * RANK_LIMIT }
     ensures { Marks start words.old words.new (IsAtPoint rank points.low points.high) }
 {
     mark_bits(words, start, rank, points.low);

@@ -1,6 +1,7 @@
-ghost use Rattle.std.specs.Prelude.{◌+◌, ◌^◌, ◌≤◌, length};
+ghost use Rattle.std.specs.Prelude.{◌+◌, ◌≤◌, length};
 ghost use Rattle.lj_verify.specs.Marks.{IsRankIn, Marks};
 
+use crate::limits::MAX_WORDS;
 use crate::pairs::mark_sets;
 use crate::strings::{SCRATCH, mark_by_strings};
 use lj_base::Block;
@@ -12,7 +13,7 @@ const PIECE: usize = 65536;
 /// `64 * start` on: by strings of the ranks of the blocks' sets of `size` points, or by runs of pairs where that is 0.
 pub(crate) fn mark_pieces(words: &mut [u64], start: u64, blocks: &[Block], t: u64, size: u64)
     requires small { t ≤ 8 }
-    requires few_words { start + length words.old ≤ 2 ^ 32 }
+    requires few_words { start + length words.old ≤ MAX_WORDS }
     ensures { Marks start words.old words.new (IsRankIn blocks.now t) }
 {
     let mut done = 0;
@@ -26,7 +27,7 @@ pub(crate) fn mark_pieces(words: &mut [u64], start: u64, blocks: &[Block], t: u6
 // Marks one piece. The strings of its blocks are made one after another in the same words, on the stack.
 fn mark_piece(words: &mut [u64], start: u64, blocks: &[Block], t: u64, size: u64)
     requires small { t ≤ 8 }
-    requires few_words { start + length words.old ≤ 2 ^ 32 }
+    requires few_words { start + length words.old ≤ MAX_WORDS }
     ensures { Marks start words.old words.new (IsRankIn blocks.now t) }
 {
     if size == 0 || t <= size {

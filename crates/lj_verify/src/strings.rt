@@ -1,4 +1,4 @@
-ghost use Rattle.std.specs.Prelude.{◌≡◌, ◌+◌, ◌*◌, ◌/◌, ◌^◌, ◌<◌, ◌≤◌, length, take};
+ghost use Rattle.std.specs.Prelude.{◌≡◌, ◌+◌, ◌*◌, ◌/◌, ◌<◌, ◌≤◌, length, take};
 ghost use Rattle.lj_base.specs.Blocks.{Ascends};
 ghost use Rattle.lj_base.specs.Colex.{choose};
 ghost use Rattle.lj_verify.specs.Marks.{IsRankAmong, IsRankIn, Marks};
@@ -6,8 +6,9 @@ ghost use Rattle.lj_verify.specs.Strings.{IsStringOf, words_for};
 
 use crate::bits::mark_prefix;
 use crate::laws::set_laws;
+use crate::limits::{MAX_WORDS, RANK_LIMIT};
 use crate::pairs::{mark_block, mark_points};
-use lj_base::{Block, binom};
+use lj_base::{Block, COST_LIMIT, binom};
 
 // All sets of s points below a point p have the ranks from 0 to binom(p, s) - 1. So the ranks of a block's sets of
 // `size` points, once they stand as a string of bits, serve all its larger sets: for each choice of the greater points,
@@ -29,8 +30,8 @@ pub(crate) fn mark_by_strings(
     requires some { 1 ≤ size }
     requires size { size < t }
     requires small { t ≤ 8 }
-    requires few_words { start + length words.old ≤ 2 ^ 32 }
-    requires few { length scratch.old ≤ 2 ^ 32 }
+    requires few_words { start + length words.old ≤ MAX_WORDS }
+    requires few { length scratch.old ≤ MAX_WORDS }
     ensures { Marks start words.old words.new (IsRankIn blocks.now t) }
 {
     for block in blocks {
@@ -50,8 +51,8 @@ fn mark_by_string(
     requires some { 1 ≤ size }
     requires size { size < t }
     requires small { t ≤ 8 }
-    requires few_words { start + length words.old ≤ 2 ^ 32 }
-    requires few { length scratch.old ≤ 2 ^ 32 }
+    requires few_words { start + length words.old ≤ MAX_WORDS }
+    requires few { length scratch.old ≤ MAX_WORDS }
     ensures marks { Marks start words.old words.new (IsRankAmong block.now t 0) }
     ensures stays { length scratch.new ≡ length scratch.old }
 {
@@ -74,7 +75,7 @@ fn string_words(v: u64, size: u64) -> u64
     requires few_points { v ≤ 99 }
     requires small { size ≤ 8 }
     ensures value { result ≡ (choose v size + 63) / 64 }
-    ensures small { result < 2 ^ 38 }
+    ensures small { result < COST_LIMIT }
 {
     binom(v, size).div_ceil(64)
 }
@@ -84,7 +85,7 @@ pub(crate) fn needs(v: u64, size: u64) -> u64
     requires few_points { v ≤ 99 }
     requires small { size ≤ 8 }
     ensures value { result ≡ words_for v size }
-    ensures small { result ≤ size * 2 ^ 38 }
+    ensures small { result ≤ size * COST_LIMIT }
 {
     if size == 0 {
         return 0;
@@ -101,7 +102,7 @@ fn make_string(scratch: &mut [u64], block: &Block, v: u64, size: u64)
     requires small { size ≤ 8 }
     requires enough { size ≤ length block.now }
     requires room { words_for v size ≤ length scratch.old }
-    requires few { length scratch.old ≤ 2 ^ 32 }
+    requires few { length scratch.old ≤ MAX_WORDS }
     ensures string { IsStringOf block.now size (take ((choose v size + 63) / 64) scratch.new) }
     ensures stays { length scratch.new ≡ length scratch.old }
 {
@@ -134,10 +135,10 @@ fn mark_above(
     requires enough { t ≤ n }
     requires within { n ≤ length block.now }
     requires ascends { Ascends 0 99 block.now }
-    requires few_words { start + length words.old ≤ 2 ^ 32 }
-    requires fits { rest + t * 2 ^ 38 ≤ 2 ^ 42 }
+    requires few_words { start + length words.old ≤ MAX_WORDS }
+    requires fits { rest + t * COST_LIMIT ≤ RANK_LIMIT }
     requires string { IsStringOf block.now size string.now }
-    requires few { length string.now ≤ 2 ^ 32 }
+    requires few { length string.now ≤ MAX_WORDS }
     ensures { Marks start words.old words.new (IsRankAmong (take n block.now) t rest) }
 {
     set_laws();
@@ -170,10 +171,10 @@ fn mark_prefixes(
     requires small { size < 8 }
     requires within { n ≤ length block.now }
     requires ascends { Ascends 0 99 block.now }
-    requires few_words { start + length words.old ≤ 2 ^ 32 }
-    requires fits { rest + 2 * 2 ^ 38 ≤ 2 ^ 42 }
+    requires few_words { start + length words.old ≤ MAX_WORDS }
+    requires fits { rest + 2 * COST_LIMIT ≤ RANK_LIMIT }
     requires string { IsStringOf block.now size string.now }
-    requires few { length string.now ≤ 2 ^ 32 }
+    requires few { length string.now ≤ MAX_WORDS }
     ensures { Marks start words.old words.new (IsRankAmong (take n block.now) (size + 1) rest) }
 {
     set_laws();

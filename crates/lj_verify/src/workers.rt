@@ -1,11 +1,11 @@
-ghost use Rattle.std.specs.Prelude.{◌≡◌, ◌⊎◌, ◌↔◌, ℕ, ◌*◌, ◌^◌, ◌<◌, ◌≤◌, true, false, drop, length, replicate};
+ghost use Rattle.std.specs.Prelude.{◌≡◌, ◌⊎◌, ◌↔◌, ℕ, ◌*◌, ◌<◌, ◌≤◌, true, false, drop, length, replicate};
 ghost use Rattle.std.specs.Prelude.{slice_index_or, take, IfOk, OnOk};
 ghost use Rattle.lj_verify.specs.Marks.{IsRankIn, Marks};
 
 use crate::bits::mark_prefix;
-use crate::limits::MAX_WORKERS;
+use crate::limits::{MAX_WORDS, MAX_WORKERS};
 use crate::pieces::mark_pieces;
-use lj_base::{Block, MAX_BLOCKS, Memory};
+use lj_base::{Block, MAX_BLOCKS, MAX_SETS, Memory};
 use lj_bitmap::RankMap;
 use std::alloc::Global;
 use std::thread;
@@ -25,7 +25,7 @@ pub(crate) fn mark_map<R: Threads + Sync>(
     workers: u64,
 ) -> Result<(), Memory>
     requires small { t ≤ 8 }
-    requires few_ranks { length map.old ≤ 2 ^ 27 }
+    requires few_ranks { length map.old ≤ MAX_SETS }
     requires few_blocks { length blocks.now ≤ MAX_BLOCKS }
     requires some_workers { 1 ≤ workers }
     requires few_workers { workers ≤ MAX_WORKERS }
@@ -47,7 +47,7 @@ fn mark_words<R: Threads + Sync>(
     workers: u64,
 ) -> Result<(), Memory>
     requires small { t ≤ 8 }
-    requires few_words { length words.old ≤ 2 ^ 32 }
+    requires few_words { length words.old ≤ MAX_WORDS }
     requires few_blocks { length blocks.now ≤ MAX_BLOCKS }
     requires some_workers { 1 ≤ workers }
     requires few_workers { workers ≤ MAX_WORKERS }
@@ -71,7 +71,7 @@ fn mark_shares<R: Threads + Sync>(
     workers: u64,
 ) -> Result<(), Memory>
     requires small { t ≤ 8 }
-    requires few_words { length words.old ≤ 2 ^ 32 }
+    requires few_words { length words.old ≤ MAX_WORDS }
     requires few_blocks { length blocks.now ≤ MAX_BLOCKS }
     requires some_workers { 1 ≤ workers }
     requires few_workers { workers ≤ MAX_WORKERS }
@@ -95,7 +95,7 @@ fn mark_shares<R: Threads + Sync>(
     Ok(())
 }
 
-// A map of as many words, with the ranks of the sets of `t` points of one share of the blocks.
+// A map of `len` words, with the ranks of the sets of `t` points of one share of the blocks.
 fn map_of_share(
     alloc: Global,
     len: usize,
@@ -106,7 +106,7 @@ fn map_of_share(
     size: u64,
 ) -> Result<Vec<u64>, Memory>
     requires small { t ≤ 8 }
-    requires few_words { len ≤ 2 ^ 32 }
+    requires few_words { len ≤ MAX_WORDS }
     requires few_shares { i ≤ MAX_WORKERS }
     requires few_blocks { share ≤ MAX_BLOCKS }
     ensures { IfOk result (λ map.
@@ -138,7 +138,7 @@ fn mark_ranges<R: Threads + Sync>(
     workers: u64,
 )
     requires small { t ≤ 8 }
-    requires few_words { length words.old ≤ 2 ^ 32 }
+    requires few_words { length words.old ≤ MAX_WORDS }
     requires some_workers { 1 ≤ workers }
     ensures { Marks 0 words.old words.new (IsRankIn blocks.now t) }
 {

@@ -26,7 +26,14 @@ overflow_add-first-2 c =
     )
 
 pub overflow_add-first : goal.overflow_add-first
-overflow_add-first c = omega (arith, c.requires.sides.few.0, c.requires.offsets.few c.args.l)
+overflow_add-first c =
+    let p = part c.args.a c.args.b c.args.l in
+    let r = c.requires in
+    omega (
+      arith,
+      (first_place c.args.frame c.args.bounds.now c.args.offsets.now c.args.s p r.numbers r.offsets r.sides
+          r.part).few,
+    )
 
 pub bounds-bounds-s : goal.bounds-bounds-s
 bounds-bounds-s c =
@@ -78,13 +85,13 @@ returns-clause-price c =
     let part = c.requires.part in
     let one = first_inside c.args.frame (cell_of c.args.s) c.args.s.v1 p s.inside s.first_side s.second_side part in
     let two = second_inside c.args.frame (cell_of c.args.s) c.args.s.v1 p s.inside s.first_side s.second_side part in
-    let count = c.requires.offsets.count in
+    let count = c.requires.offsets in
     ap₂ (λ m n. m * n)
     (number_at c.args.frame c.args.bounds.now c.args.s.v1 c.args.l c.args.b c.args.s.first _ s.first
-    (count c.args.l one.k))
+    (count c.args.l (omega (arith, one.cell.4))))
     (number_at c.args.frame c.args.bounds.now (c.args.s.v - c.args.s.v1) (c.args.s.k - c.args.l)
     (c.args.s.t - c.args.a)
-    c.args.s.second _ s.second (count (c.args.s.k - c.args.l) two.k))
+    c.args.s.second _ s.second (count (c.args.s.k - c.args.l) (omega (arith, two.cell.4))))
 
 pub returns-clause-small : goal.returns-clause-small
 returns-clause-small c =

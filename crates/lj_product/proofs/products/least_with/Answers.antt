@@ -11,7 +11,7 @@ pub least_tails-tails-requires-clause-numbers : goal.least_tails-tails-requires-
 least_tails-tails-requires-clause-numbers c =
     has_prices c.choose_product_law.ensures.most c.choose_product_law.ensures.small c.choose_law.ensures.small
     c.args.frame c.args.bounds.now c.args.s c.requires.bounds c.requires.sides
-    (c.index_law.ensures.below c.args.frame)
+    (c.index_law.ensures.below c.args.frame) c.index_law.ensures.size
 
 pub returns-clause-least : goal.returns-clause-least
 returns-clause-least c = λ parts h.

@@ -1,5 +1,5 @@
-use Rattle.lj_text.proofs.NumberLines.{IsPlain-small_numbers, Spells-numbers}
+use Rattle.lj_text.proofs.NumberLines.{IsPlain-numbers, Spells-numbers}
 use Rattle.lj_text.proofs.laws.number_line_law.Goals as goal
 
 pub returns : goal.returns
-returns c = record { plain = IsPlain-small_numbers; spelled = Spells-numbers }
+returns c = record { plain = IsPlain-numbers; spelled = Spells-numbers }

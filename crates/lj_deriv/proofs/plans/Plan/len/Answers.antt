@@ -8,4 +8,4 @@ use Rattle.lj_deriv.specs.Texts.{Spelled, plan_text}
 pub returns-clause-spelled : goal.returns-clause-spelled
 returns-clause-spelled c =
     subst (λ (p : Steps). Spelled (plan_tree p) (plan_text p)) c.self.view_is
-    (Spelled-whole (steps_of c.self.inside.arena) c.len.ensures.valid c.self.invariant)
+    (Spelled-whole (steps_of c.self.inside.arena) c.len.ensures.valid c.self.invariant.0)

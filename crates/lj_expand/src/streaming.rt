@@ -1,0 +1,34 @@
+ghost use Rattle.std.specs.Prelude.{◌≡◌, ℕ, ◌<◌, ◌≤◌, IfErr, OnErr, OnOk, length, take};
+ghost use Rattle.lj_base.specs.Streams.{Appends, Rose};
+ghost use Rattle.lj_blockfile.specs.BlockFiles.{blocks_text};
+ghost use Rattle.lj_cover.specs.Derivations.{expand, root_cell};
+ghost use Rattle.lj_deriv.specs.Nodes.{plan_tree};
+
+use crate::lines::Line;
+use crate::positions::block_at;
+use lj_base::Sink;
+use lj_deriv::Plan;
+use lj_text::{WriteFault, write_all};
+
+/// Writes a line for each block of the plan, in the order of its rules, one by one. It takes no memory.
+pub fn stream<K: Sink>(plan: &Plan, sink: &mut K) -> Result<(), WriteFault>
+    requires some { 1 ≤ (root_cell (plan_tree plan.now)).k }
+    ensures written { OnOk result (Appends (K.written sink.old) (K.written sink.new)
+        (blocks_text (expand (plan_tree plan.now)))) }
+    ensures quiet { OnOk result (K.faults sink.new ≡ K.faults sink.old) }
+    ensures fault { IfErr result (λ f. Rose (K.faults sink.old) (K.faults sink.new)
+        × (f.count ≡ K.faults sink.new)) }
+
+    // What went out is a proper front of the lines.
+    ensures front { OnErr result ((n : ℕ) × (n < length (blocks_text (expand (plan_tree plan.now))))
+        × Appends (K.written sink.old) (K.written sink.new)
+        (take n (blocks_text (expand (plan_tree plan.now))))) }
+{
+    let cost = plan.cost();
+    for i in 0..cost {
+        let block = block_at(plan, i);
+        let line = Line::of(&block);
+        write_all(sink, line.as_slice())?;
+    }
+    Ok(())
+}

@@ -1,0 +1,11 @@
+pub mod Acceptances
+pub mod ByCell
+pub mod Distances
+pub mod FirstNodes
+pub mod FirstTables
+pub mod Offering
+pub mod Openings
+pub mod PartPlaces
+pub mod Publications
+pub mod RowLists
+pub mod RuleNodes

@@ -1,0 +1,43 @@
+use Rattle.lj_cover.specs.Instances.{Reads}
+use Rattle.lj_table.specs.Tables.{IsIndexed}
+use Rattle.lj_table.proofs.Openings.{opened_as, walk_begins, walk_ends, walk_inside, walk_opens}
+use Rattle.lj_table.proofs.readers.open_all_readers.Goals as goal
+
+pub loop-d-init : goal.loop-d-init
+loop-d-init c = record {
+  next = tt;
+  finite = tt;
+  walk = walk_begins c.args.frame c.args.c (λ d. Unit {0}) c.of-readers.result c.args.closed.now c.args.busy.now
+      c.of-readers.ensures;
+}
+
+pub index-requires : goal.index-requires
+index-requires c =
+    walk_inside c.args.frame c.args.c c.in-Some.d
+    (λ d. Unit {0}) c.next.new.self c.loop-d.readers c.args.closed.now c.args.busy.now
+    c.loop-d.closed c.loop-d.busy c.in-Some.ensures.steps c.loop-d.invariant.walk
+
+pub loop-d-preserved : goal.loop-d-preserved
+loop-d-preserved c =
+    let f = c.args.frame in
+    let ix : IsIndexed c.args.frame = record {
+      below = c.index_law.ensures.below c.args.frame;
+      one = c.index_law.ensures.one_to_one c.args.frame;
+    } in
+    let inside = walk_inside f c.args.c c.in-Some.d (λ d. Unit {0}) c.next.new.self c.loop-d.readers c.args.closed.now
+    c.args.busy.now c.loop-d.closed c.loop-d.busy c.in-Some.ensures.steps c.loop-d.invariant.walk in
+    record {
+      next = tt;
+      finite = tt;
+      walk = walk_opens f ix c.args.c c.in-Some.d (λ d. Unit {0}) c.next.new.self c.loop-d.readers c.index.result
+          c.args.closed.now c.args.busy.now c.loop-d.closed c.loop-d.busy c.reopen.new.closed c.reopen.new.busy inside
+          c.index.ensures.index tt c.in-Some.ensures.steps c.reopen.ensures c.loop-d.invariant.walk;
+    }
+
+pub returns : goal.returns
+returns c =
+    opened_as c.args.frame (λ d. Unit {0} × Reads c.args.frame d c.args.c) (λ d. Reads c.args.frame d c.args.c)
+    c.args.closed.now c.args.busy.now c.loop-d.closed c.loop-d.busy (λ d i. (λ p. p.1, λ r. (tt, r)))
+    (walk_ends c.args.frame c.args.c (λ d. Unit {0}) c.loop-d.readers c.args.closed.now c.args.busy.now c.loop-d.closed
+    c.loop-d.busy
+    (c.in_default.ensures.steps.0) c.loop-d.invariant.walk)

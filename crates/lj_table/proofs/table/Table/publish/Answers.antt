@@ -1,0 +1,72 @@
+use Rattle.std.proofs.Common.{◌≡◌, ◌∙◌, ◌↔◌, sym, ap, subst, subst₂, true}
+use Rattle.lj_base.specs.Frames.{InFrame, index_of}
+use Rattle.lj_relax.specs.Found.{found_cost}
+use Rattle.lj_relax.specs.Steps.{IsLeastPrice, Publishes}
+use Rattle.lj_relax.specs.Tickets.{TicketLists, snapshot_of}
+use Rattle.lj_table.specs.Lowering.{AgreesWith}
+use Rattle.lj_table.specs.Tables.{Contents, Fits, contents_of, is_taken, state_of}
+use Rattle.lj_table.proofs.Publications.{step_is, table_is, taken_kept}
+use Rattle.lj_table.proofs.table.Table.publish.Goals as goal
+
+fits_before : (c : goal.After-give_back) → Fits c.self.inside.store.arena c.args.p.now.ticket
+fits_before c = subst (λ (x : Contents). Fits x.arena c.args.p.now.ticket) (sym c.self.view_is) c.requires.fits
+
+own : (c : goal.After-give_back) → InFrame c.args.p.now.ticket.frame c.args.p.now.ticket.cell
+own c =
+    subst (λ (q : TicketLists). InFrame q.frame q.cell) c.ticket-ticket.ensures
+    (subst (λ d. InFrame c.ticket-ticket.result.now.frame d) c.cell.ensures.cell c.cell.ensures.inside)
+
+inside : (c : goal.After-give_back) → InFrame c.self.inside.store.arena.frame c.args.p.now.ticket.cell
+inside c = subst (λ f. InFrame f c.args.p.now.ticket.cell) (fits_before c).frame (own c)
+
+at : (c : goal.After-give_back) → c.index-i.result ≡ index_of c.self.inside.store.arena.frame c.args.p.now.ticket.cell
+at c =
+    c.index-i.ensures.index
+    ∙ ap (λ f. index_of f c.cell.result) (c.frame.ensures ∙ c.lower-lowered.ensures.frame)
+    ∙ ap (index_of c.self.inside.store.arena.frame)
+    (c.cell.ensures.cell ∙ ap (λ (q : TicketLists). q.cell) c.ticket-ticket.ensures)
+
+agrees : (c : goal.After-give_back) → (c.agrees-agreed.result ≡ true)
+    ↔ AgreesWith c.self.inside.store.arena c.self.inside.store.bounds.items c.args.p.now.ticket
+agrees c =
+    subst₂ (λ bs q. (c.agrees-agreed.result ≡ true) ↔ AgreesWith c.self.inside.store.arena bs q) c.deref.ensures.value
+    c.ticket-ticket.ensures c.agrees-agreed.ensures
+
+pub invariant_of-self : goal.invariant_of-self
+invariant_of-self c =
+    table_is (contents_of c.self.inside.store)
+    (contents_of c.lower-lowered.new.self) c.args.p.now c.lower-lowered.result
+    c.agrees-agreed.result c.index-i.result c.give_back.new.closed c.give_back.new.busy c.self.invariant
+    (fits_before c) (inside c)
+    (at c) c.lower-lowered.ensures c.give_back.ensures (agrees c) c.rows_are_of_uploads.ensures.rows
+    c.publish_keeps_good.ensures c.nodes_derive.ensures (own c)
+    (subst (IsLeastPrice c.args.p.now.ticket.frame (snapshot_of c.args.p.now.ticket)) c.cost.ensures.cost
+    c.cost.ensures.least)
+
+pub returns-clause-step : goal.returns-clause-step
+returns-clause-step c =
+    subst (λ (x : Contents). Publishes (state_of x) (snapshot_of c.args.p.now.ticket) (found_cost c.args.p.now.found)
+    c.lower-lowered.result c.agrees-agreed.result
+    (state_of (record (contents_of c.lower-lowered.new.self)
+    { closed = c.give_back.new.closed; busy = c.give_back.new.busy })))
+    c.self.view_is
+    (step_is (contents_of c.self.inside.store)
+    (contents_of c.lower-lowered.new.self) c.args.p.now c.lower-lowered.result
+    c.agrees-agreed.result c.index-i.result c.give_back.new.closed c.give_back.new.busy c.self.invariant (fits_before c)
+    (inside c) (at c) c.lower-lowered.ensures c.give_back.ensures (agrees c))
+
+pub returns-clause-taken : goal.returns-clause-taken
+returns-clause-taken c d h other =
+    subst (λ (x : Contents). InFrame x.arena.frame d
+    → is_taken (record (contents_of c.lower-lowered.new.self)
+    { closed = c.give_back.new.closed; busy = c.give_back.new.busy }) d
+    ≡ is_taken x d)
+    c.self.view_is
+    (λ k. taken_kept (contents_of c.self.inside.store)
+    (contents_of c.lower-lowered.new.self) c.args.p.now c.lower-lowered.result
+    c.agrees-agreed.result c.index-i.result c.give_back.new.closed c.give_back.new.busy c.self.invariant (fits_before c)
+    (inside c) (at c) c.lower-lowered.ensures c.give_back.ensures (agrees c) d k other) h
+
+pub returns-clause-fits : goal.returns-clause-fits
+returns-clause-fits c q h =
+    c.lower-lowered.ensures.fits q (subst (λ (x : Contents). Fits x.arena q) (sym c.self.view_is) h)

@@ -1,0 +1,42 @@
+use Rattle.std.proofs.Common.{◌<◌, ◌≤◌, ◌∙◌, List, ap, get_or, le_trans, subst, subst₂, sym}
+use Rattle.std.specs.List.{AllByRecursion}
+use Rattle.lj_base.specs.Frames.{InFrame, Top, index_of}
+use Rattle.lj_cover.specs.Rules.{Upload}
+use Rattle.lj_table.specs.Settling.{distance}
+use Rattle.lj_table.specs.Tables.{Contents, state_of}
+use Rattle.lj_table.proofs.Distances.{nearer, no_higher}
+use Rattle.lj_table.proofs.table.Table.settle.Goals as goal
+
+pub returns-in_err-reserve-clause-fits : goal.returns-in_err-reserve-clause-fits
+returns-in_err-reserve-clause-fits c q h = c.reserve.ensures.fits q (c.loop-c.invariant.fits q h)
+
+pub returns-in_err-present_rows-clause-fits : goal.returns-in_err-present_rows-clause-fits
+returns-in_err-present_rows-clause-fits c q h = c.reserve.ensures.fits q (c.loop-c.invariant.fits q h)
+
+pub present_rows-requires-clause-inside : goal.present_rows-requires-clause-inside
+present_rows-requires-clause-inside c =
+    subst₂ (λ (f : Top) (us : List Upload). AllByRecursion (λ (u : Upload). InFrame f u.cell) us) (sym c.frame.ensures)
+    (sym c.uploads.ensures.uploads) c.uploads.ensures.inside
+
+pub loop-c-smaller : goal.loop-c-smaller
+loop-c-smaller c =
+    subst (λ d. distance c.turn.new.self < d) (ap distance c.reserve.ensures.same) (nearer _ _ _ c.turn.ensures.turn)
+
+pub loop-c-preserved : goal.loop-c-preserved
+loop-c-preserved c = record {
+  frame = c.turn.ensures.frame ∙ ap (λ (t : Contents). t.arena.frame) c.reserve.ensures.same ∙ c.loop-c.invariant.frame;
+  uploads = c.turn.ensures.uploads ∙ ap (λ (t : Contents). t.arena.uploads) c.reserve.ensures.same
+      ∙ c.loop-c.invariant.uploads;
+  falls = λ d at.
+      let j = index_of c.args.self.now.arena.frame d in
+      le_trans (no_higher _ _ _ c.turn.ensures.turn j)
+      (subst (λ bs. get_or bs (index_of c.args.self.now.arena.frame d) 0 ≤ get_or c.args.self.now.bounds
+      (index_of c.args.self.now.arena.frame d) 0)
+      (sym (ap (λ (t : Contents). t.bounds) c.reserve.ensures.same)) (c.loop-c.invariant.falls d at));
+  fits = λ q h. c.turn.ensures.fits q (c.reserve.ensures.fits q (c.loop-c.invariant.fits q h));
+}
+
+pub returns-clause-least : goal.returns-clause-least
+returns-clause-least c =
+    c.rest_is_least.ensures (state_of c.loop-c.self) c.first_open.ensures.table.good
+    (c.first_open.ensures.none c.in_default.is)

@@ -1,0 +1,71 @@
+ghost use Rattle.std.specs.Prelude.{◌≡◌, ◌↔◌, ◌<◌, ◌≤◌, All, IsTrue, length};
+ghost use Rattle.lj_base.specs.Frames.{size_of};
+ghost use Rattle.lj_cover.specs.Instances.{IsRowOf, cut_counts};
+ghost use Rattle.lj_table.specs.Tables.{AreNodes, IsNodeOf};
+
+use crate::rows::serves;
+use lj_base::{Cell, Frame, Row, index_law};
+use lj_deriv::Arena;
+use lj_upload::Accepted;
+
+/// Whether each cell's node is there, is of that cell and costs its number.
+pub fn are_nodes(frame: Frame, arena: &Arena, nodes: &[u64], bounds: &[u64]) -> bool
+    requires nodes { length nodes.now ≡ size_of frame }
+    requires bounds { length bounds.now ≡ size_of frame }
+    ensures { IsTrue result ↔ AreNodes frame arena.now nodes.now bounds.now }
+{
+    index_law();
+    for j in 0..frame.size() {
+        let c = frame.cell(j);
+        if !is_node_of(arena, nodes[j as usize], c, bounds[j as usize]) {
+            return false;
+        }
+    }
+    true
+}
+
+fn is_node_of(arena: &Arena, node: u64, c: Cell, bound: u64) -> bool
+    ensures { IsTrue result ↔ IsNodeOf arena.now node c bound }
+{
+    node < arena.len() && is_cell(arena.cell(node), c) && arena.cost(node) == bound
+}
+
+fn is_cell(c: Cell, d: Cell) -> bool
+    ensures { IsTrue result ↔ (c ≡ d) }
+{
+    c.v == d.v && c.k == d.k && c.t == d.t
+}
+
+/// Whether each row is the row at the cell of the upload at its place.
+pub fn are_rows(uploads: &[Accepted], c: Cell, rows: &[Row]) -> bool
+    ensures { IsTrue result ↔ All (IsRowOf uploads.now c) rows.now }
+{
+    for row in rows {
+        if !is_row_of(uploads, c, row) {
+            return false;
+        }
+    }
+    true
+}
+
+fn is_row_of(uploads: &[Accepted], c: Cell, row: &Row) -> bool
+    ensures { IsTrue result ↔ IsRowOf uploads.now c row.now }
+{
+    let place = row.upload as usize;
+    place < uploads.len() && is_row_with(&uploads[place], c, row)
+}
+
+fn is_row_with(up: &Accepted, c: Cell, row: &Row) -> bool
+    ensures { IsTrue result ↔ ((up.now.cell.t ≡ c.t) × (c.v ≤ up.now.cell.v)
+        × (row.now.counts ≡ cut_counts c.v up.now.blocks)) }
+{
+    serves(up, c) && has_counts(up, c, row)
+}
+
+fn has_counts(up: &Accepted, c: Cell, row: &Row) -> bool
+    requires { c.v ≤ up.now.cell.v }
+    ensures { IsTrue result ↔ (row.now.counts ≡ cut_counts c.v up.now.blocks) }
+{
+    let counts = up.counts(u64::from(c.v));
+    row.counts.as_slice() == counts.as_slice()
+}

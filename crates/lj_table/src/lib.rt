@@ -1,0 +1,19 @@
+//! The live table: uploads in, least bounds out. For each cell of a frame a bound, with the derivation that costs it,
+//! and a list of the cells at which something cheaper may be found.
+#![tactic(auto)]
+
+mod agreement;
+mod answers;
+mod fitting;
+mod lowering;
+mod marks;
+mod offers;
+mod readers;
+mod rows;
+mod rules;
+mod starting;
+mod store;
+mod table;
+
+pub use answers::{Claimed, Outcome};
+pub use table::Table;

@@ -1,0 +1,314 @@
+ghost use Rattle.std.specs.Prelude.{◌≡◌, ◌≢◌, ◌↔◌, ℕ, ◌+◌, ◌<◌, ◌≤◌, true, false, IfOk, IfSome, None, OnOk, OnErr};
+ghost use Rattle.std.specs.Prelude.{IsTrue, All, length, []};
+ghost use Rattle.std.specs.Bool.{OnTrue};
+ghost use Rattle.std.specs.List.{AllByRecursion};
+ghost use Rattle.lj_base.specs.Bounds.{at_cell};
+ghost use Rattle.lj_base.specs.Cells.{Triple};
+ghost use Rattle.lj_base.specs.Colex.{choose};
+ghost use Rattle.lj_base.specs.Frames.{InFrame, index_of};
+ghost use Rattle.lj_cover.specs.Derivations.{DerivableIn, root_cell, tree_cost};
+ghost use Rattle.lj_cover.specs.Instances.{IsRowOf, rows_at};
+ghost use Rattle.lj_cover.specs.Rules.{IsCovering};
+ghost use Rattle.lj_deriv.specs.Nodes.{IsDerivedIn, node_tree, plan_tree};
+ghost use Rattle.lj_deriv.specs.Plans.{IsPlanOf};
+ghost use Rattle.lj_induced.specs.Rows.{IsRowAt};
+ghost use Rattle.lj_relax.specs.Found.{found_cost};
+ghost use Rattle.lj_relax.specs.Steps.{Accepts, Publishes};
+ghost use Rattle.lj_relax.specs.Tickets.{TicketLists, snapshot_of};
+ghost use Rattle.lj_table.specs.Claiming.{IsClaimed, IsFirst};
+ghost use Rattle.lj_table.specs.Settling.{IsTurn};
+ghost use Rattle.lj_table.specs.Starting.{first_bound};
+ghost use Rattle.lj_table.specs.Tables.{AreLeast, Fits, IsAtRest, IsNodeOf, IsTable, KeepsNodes, is_taken, state_of};
+
+use crate::agreement::agrees;
+use crate::answers::{Claimed, Outcome};
+use crate::fitting::{are_nodes, are_rows};
+use crate::marks::{first_unmarked, give_back, next_cell};
+use crate::rows::{present_rows, push_rows};
+use crate::starting::begin;
+use crate::store::Store;
+use lj_base::{Cell, Frame, Memory, Row, index_law};
+use lj_bitmap::RankMap;
+use lj_cover::laws::{more_uploads_derive, rows_are_of_uploads};
+use lj_deriv::{Arena, MAX_ARENA_UPLOADS, Plan};
+use lj_relax::laws::{accept_keeps_good, bounds_are_positive, publish_keeps_good, rest_is_least};
+use lj_relax::{Proposal, Ticket, least_instance};
+use lj_upload::Accepted;
+use std::alloc::Global;
+use std::marker::Model;
+
+/// For each cell of a frame a bound, with a derivation that costs it; the uploads from which these are made; and the
+/// cells that are open, at which a rule may be cheaper than the bound.
+#[derive(Drop)]
+pub struct Table {
+    store: Store,
+}
+
+impl Model for Table {
+    ghost use Rattle.lj_table.specs.Tables.{Contents, IsTable, contents_of};
+
+    ghost Value = { Contents };
+
+    ghost view = { λ t. contents_of t.store };
+
+    ghost invariant = { λ t. IsTable (contents_of t.store) };
+}
+
+impl Table {
+    /// A table without uploads, in which each cell is open and none is taken. A cell with `t = 0` or `k = v` starts
+    /// with one block, else one with `t = 1` with blocks in a row, else one with `t = k` with all blocks, and else with
+    /// the covering of the cell of one point less in each block. It takes all memory that the marks need.
+    pub fn start(alloc: Global, frame: Frame) -> Result<Table, Memory>
+        ensures frame { IfOk result (λ t. t.arena.frame ≡ frame) }
+        ensures uploads { IfOk result (λ t. t.arena.uploads ≡ []) }
+        ensures bounds { IfOk result (λ t. (c : Triple) → InFrame frame c → (state_of t).bounds c ≡ first_bound c) }
+        ensures pending { IfOk result (λ t. (c : Triple) → InFrame frame c → (state_of t).pending c ≡ true) }
+        ensures untaken { IfOk result (λ t. (c : Triple) → InFrame frame c → is_taken t c ≡ false) }
+    {
+        index_law();
+        let n = frame.size();
+        let mut arena = Arena::new(alloc, frame);
+        arena.reserve(n)?;
+        let mut bounds = vec![in alloc; 0; n as usize]?;
+        let mut nodes = vec![in alloc; 0; n as usize]?;
+        let closed = RankMap::new(alloc, n)?;
+        let busy = RankMap::new(alloc, n)?;
+        begin(frame, &mut arena, &mut bounds, &mut nodes);
+        arena.nodes_derive();
+        let store = Store {
+            arena,
+            bounds,
+            nodes,
+            closed,
+            busy,
+        };
+        Ok(Table { store })
+    }
+
+    pub fn frame(&self) -> Frame
+        ensures frame { result ≡ self.now.arena.frame }
+        ensures table { IsTable self.now }
+    {
+        self.store.arena.frame()
+    }
+
+    /// The bound of a cell.
+    pub fn bound(&self, c: Cell) -> u64
+        requires { InFrame self.now.arena.frame c }
+        ensures bound { result ≡ (state_of self.now).bounds c }
+        ensures derivable { DerivableIn self.now.arena.frame self.now.arena.uploads c result }
+        ensures small { result ≤ choose c.v c.t }
+    {
+        self.store.bound(c)
+    }
+
+    /// The node of a cell: its number in the table's arena.
+    pub fn node(&self, c: Cell) -> u64
+        requires { InFrame self.now.arena.frame c }
+        ensures node { result ≡ at_cell self.now.arena.frame self.now.nodes c }
+        ensures derivation { IsNodeOf self.now.arena result c ((state_of self.now).bounds c) }
+    {
+        self.store.arena.frame().at_cell(&self.store.nodes, c)
+    }
+
+    /// Whether a cell is open.
+    pub fn is_pending(&self, c: Cell) -> bool
+        requires { InFrame self.now.arena.frame c }
+        ensures { result ≡ (state_of self.now).pending c }
+    {
+        !self.store.closed.has(self.store.arena.frame().index(c))
+    }
+
+    /// Whether no cell is open. Then each bound is the least. Cost: a step for each 512 cells.
+    pub fn at_rest(&self) -> bool
+        ensures rest { IsTrue result ↔ IsAtRest self.now }
+        ensures least { OnTrue result (AreLeast self.now) }
+    {
+        rest_is_least();
+        match first_unmarked(self.store.arena.frame(), &self.store.closed) {
+            Some(_) => false,
+            None => true,
+        }
+    }
+
+    /// The uploads that were accepted, in their order.
+    pub fn accepted(&self) -> &[Accepted]
+        ensures uploads { result.now ≡ self.now.arena.uploads }
+        ensures few { length result.now ≤ MAX_ARENA_UPLOADS }
+        ensures covering { AllByRecursion IsCovering result.now }
+        ensures inside { AllByRecursion (λ u. InFrame self.now.arena.frame u.cell) result.now }
+    {
+        self.store.arena.uploads()
+    }
+
+    /// A derivation of the cell from the uploads, of the node that the cell has now: it costs the bound, also where the
+    /// bound of a cell below it has fallen since the node was made.
+    pub fn plan(&self, alloc: Global, c: Cell) -> Result<Plan, Memory>
+        requires { InFrame self.now.arena.frame c }
+        ensures cell { IfOk result (λ p. root_cell (plan_tree p) ≡ c) }
+        ensures cost { IfOk result (λ p. tree_cost (plan_tree p) ≡ (state_of self.now).bounds c) }
+        ensures derived { IfOk result (λ p. IsDerivedIn self.now.arena.frame self.now.arena.uploads (plan_tree p)) }
+        ensures plan { IfOk result (IsPlanOf self.now.arena (at_cell self.now.arena.frame self.now.nodes c)) }
+    {
+        self.store.arena.nodes_derive();
+        self.store.arena.plan(alloc, self.node(c))
+    }
+
+    /// Whether what is found over a ticket may be published in this table. Cost: a few steps for each cell of the frame
+    /// and each row.
+    pub fn fits(&self, ticket: &Ticket) -> bool
+        ensures { IsTrue result ↔ Fits self.now.arena ticket.now }
+    {
+        let store = &self.store;
+        let frame = ticket.frame();
+        frame == store.arena.frame()
+            && are_rows(store.arena.uploads(), ticket.cell(), ticket.rows())
+            && are_nodes(frame, &store.arena, ticket.nodes(), ticket.bounds())
+    }
+}
+
+impl Table {
+    /// Makes room for one more node; all else stays.
+    pub fn reserve(&mut self) -> Result<(), Memory>
+        ensures room { OnOk result (1 ≤ self.new.arena.spare) }
+        ensures same { self.new
+            ≡ record self.old { arena = record self.old.arena { spare = self.new.arena.spare } } }
+        ensures more { self.old.arena.spare ≤ self.new.arena.spare }
+        ensures fits { (q : TicketLists) → Fits self.old.arena q → Fits self.new.arena q }
+    {
+        self.store.arena.reserve(1)
+    }
+
+    /// Appends an upload. It lowers the bounds of its own cell and of the cells derived at its point and at its pair of
+    /// least degree, where these cost less, and opens the cells that read a lowered one and those at which it has a
+    /// row. Cost: a few steps for each cell that is opened.
+    pub fn accept(&mut self, up: Accepted) -> Result<(), Memory>
+        requires inside { InFrame self.old.arena.frame up.cell }
+        requires few { length self.old.arena.uploads < MAX_ARENA_UPLOADS }
+        ensures step { OnOk result (Accepts (state_of self.old) up (state_of self.new)) }
+        ensures taken { OnOk result ((c : Triple) → InFrame self.old.arena.frame c
+            → is_taken self.new c ≡ is_taken self.old c) }
+        ensures nodes { OnOk result (KeepsNodes self.old self.new) }
+        ensures err { OnErr result (self.new
+            ≡ record self.old { arena = record self.old.arena { spare = self.new.arena.spare } }) }
+        ensures more { OnErr result (self.old.arena.spare ≤ self.new.arena.spare) }
+        ensures fits { (q : TicketLists) → Fits self.old.arena q → Fits self.new.arena q }
+    {
+        accept_keeps_good();
+        more_uploads_derive();
+        let _ = up.design();
+        self.store.arena.reserve(3)?;
+        let u = self.store.arena.push_upload(up)?;
+        self.store.take_in(u);
+        Ok(())
+    }
+
+    /// Takes the first open cell in index order that is not taken, or else the first open one, and copies what is
+    /// needed to find a least price there into the ticket. It takes no memory.
+    pub fn claim(&mut self, ticket: &mut Ticket) -> Claimed
+        requires frame { ticket.old.frame ≡ self.old.arena.frame }
+        requires room { length self.old.arena.uploads ≤ ticket.old.room }
+        ensures claim { IsClaimed self.old ticket.old result self.new ticket.new }
+        ensures fits { (q : TicketLists) → Fits self.old.arena q → Fits self.new.arena q }
+    {
+        bounds_are_positive();
+        rows_are_of_uploads();
+        let frame = self.store.arena.frame();
+        match next_cell(frame, &self.store.closed, &self.store.busy) {
+            None => Claimed::NoneOpen,
+            Some(cell) => {
+                self.store.busy.mark(frame.index(cell));
+                ticket.fill(cell, &self.store.bounds, &self.store.nodes);
+                push_rows(self.store.arena.uploads(), ticket);
+                Claimed::Cell { cell }
+            }
+        }
+    }
+
+    /// Publishes what was found over a ticket, which may be older than any number of other steps. It takes no memory.
+    pub fn publish(&mut self, p: &Proposal) -> Outcome
+        requires room { 1 ≤ self.old.arena.spare }
+        requires fits { Fits self.old.arena p.now.ticket }
+        ensures step { Publishes (state_of self.old) (snapshot_of p.now.ticket) (found_cost p.now.found)
+            result.lowered result.agreed (state_of self.new) }
+        ensures untaken { is_taken self.new p.now.ticket.cell ≡ false }
+        ensures taken { (c : Triple) → InFrame self.old.arena.frame c → c ≢ p.now.ticket.cell
+            → is_taken self.new c ≡ is_taken self.old c }
+        ensures nodes { KeepsNodes self.old self.new }
+        ensures spare { self.old.arena.spare ≤ self.new.arena.spare + 1 }
+        ensures fits { (q : TicketLists) → Fits self.old.arena q → Fits self.new.arena q }
+    {
+        publish_keeps_good();
+        bounds_are_positive();
+        rows_are_of_uploads();
+        self.store.arena.nodes_derive();
+        let _ = p.cost();
+        let ticket = p.ticket();
+        let agreed = agrees(&self.store.arena, &self.store.bounds, ticket);
+        let lowered = self.store.lower(p);
+        let i = self.store.arena.frame().index(ticket.cell());
+        give_back(&mut self.store.closed, &mut self.store.busy, i, agreed);
+        Outcome { lowered, agreed }
+    }
+
+    /// Finds a least price at the first open cell until none is open; then each bound is the least. It works over the
+    /// table's own lists, and makes the rows of a cell once a turn. After `Memory` bounds may have fallen.
+    pub fn settle(&mut self, alloc: Global) -> Result<(), Memory>
+        ensures rest { OnOk result (IsAtRest self.new) }
+        ensures least { OnOk result (AreLeast self.new) }
+        ensures frame { self.new.arena.frame ≡ self.old.arena.frame }
+        ensures uploads { self.new.arena.uploads ≡ self.old.arena.uploads }
+        ensures falls { (c : Triple) → InFrame self.old.arena.frame c
+            → (state_of self.new).bounds c ≤ (state_of self.old).bounds c }
+        ensures fits { (q : TicketLists) → Fits self.old.arena q → Fits self.new.arena q }
+    {
+        rest_is_least();
+        let mut rows = Vec::new(alloc);
+        while let Some(c) = self.first_open() {
+            self.reserve()?;
+            present_rows(
+                self.store.arena.uploads(),
+                self.store.arena.frame(),
+                c,
+                &mut rows,
+            )?;
+            self.turn(c, &rows);
+        }
+        Ok(())
+    }
+
+    // The first open cell.
+    fn first_open(&self) -> Option<Cell>
+        ensures table { IsTable self.now }
+        ensures none { result ≡ None → IsAtRest self.now }
+        ensures some { IfSome result (IsFirst self.now.arena.frame self.now.closed) }
+    {
+        first_unmarked(self.store.arena.frame(), &self.store.closed)
+    }
+
+    // One publication at an open cell over the bounds and rows of now, with no ticket.
+    fn turn(&mut self, c: Cell, rows: &[Row])
+        requires room { 1 ≤ self.old.arena.spare }
+        requires first { IsFirst self.old.arena.frame self.old.closed c }
+        requires rows { rows.now ≡ rows_at self.old.arena.uploads c }
+        requires fit { All (IsRowAt self.old.arena.frame c) rows.now }
+        ensures frame { self.new.arena.frame ≡ self.old.arena.frame }
+        ensures uploads { self.new.arena.uploads ≡ self.old.arena.uploads }
+        ensures turn { IsTurn (index_of self.old.arena.frame c) self.old self.new }
+        ensures fits { (q : TicketLists) → Fits self.old.arena q → Fits self.new.arena q }
+    {
+        publish_keeps_good();
+        bounds_are_positive();
+        rows_are_of_uploads();
+        self.store.arena.nodes_derive();
+        let frame = self.store.arena.frame();
+        let found = least_instance(frame, &self.store.bounds, rows, c);
+        let _lowered = self.store.lower_here(c, rows, &found);
+        give_back(
+            &mut self.store.closed,
+            &mut self.store.busy,
+            frame.index(c),
+            true,
+        );
+    }
+}
