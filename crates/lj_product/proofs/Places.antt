@@ -5,7 +5,7 @@ use Rattle.lj_base.specs.Bounds.{AreBounds, at_cell}
 use Rattle.lj_base.specs.Cells.{IsCell, Triple}
 use Rattle.lj_base.specs.Colex.{choose}
 use Rattle.lj_base.specs.Frames.{InFrame, Top, cells_before_k, cells_before_v, index_of, size_of}
-use Rattle.lj_base.specs.declared.limits.TheConstants.{COST_LIMIT}
+use Rattle.lj_base.specs.declared.limits.TheConstants.{COST_LIMIT, MAX_CELLS}
 use Rattle.lj_cover.specs.Rules.{Part, triple}
 use Rattle.lj_product.specs.declared.sides.Sides.{Sides}
 use Rattle.lj_product.specs.Parts.{IsPart, part_price}
@@ -58,7 +58,7 @@ number_at f numbers v k t base offset h i = ap (λ n. get_or numbers n 0) (place
 -- the place of a part's first cell among the numbers, and of its second
 pub record HasPlace (numbers : List ℕ) (place : ℕ) : Type 0 where
   pub inside : place < length numbers
-  pub few : place < 99 * (26 * 9)
+  pub few : place < MAX_CELLS
 
 pub first_place : (f : Top) (numbers offsets : List ℕ) (s : Sides) (p : Part) → HasPrices f numbers s
     → AreOffsets f offsets
@@ -119,7 +119,7 @@ module _ (most : (a s b u : ℕ) → choose a s * choose b u ≤ choose (a + b) 
       omega (arith, below_sets p i, most s.v1 p.b (s.v - s.v1) (s.t - p.a), whole, low)
 
   pub has_prices : ((c : Triple) → InFrame f c → index_of f c < size_of f)
-      → ((f : Top) → IsCell f.top → size_of f ≤ 99 * (26 * 9))
+      → ((f : Top) → IsCell f.top → size_of f ≤ MAX_CELLS)
       → HasPrices f numbers s
   has_prices below size = record {
     few = omega (arith, b.count, size f sides.limits);
