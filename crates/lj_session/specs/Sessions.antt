@@ -96,6 +96,13 @@ abbrev pub IsNext : SessionValue → Ask → Type 0
 IsNext s Done = s.left ≡ []
 IsNext s ask = IsAsking s ask
 
+-- the cell that is asked about, if any, is in the frame
+abbrev pub AsksInside : Top → Ask → Type 0
+AsksInside f (Accept u) = InFrame f u.cell
+AsksInside f (Bound c) = InFrame f c
+AsksInside f (Plan c) = InFrame f c
+AsksInside f ask = Unit {0}
+
 -- the upload of which is asked that it be accepted
 abbrev pub asked_upload : Ask → Upload
 asked_upload (Accept u) = u

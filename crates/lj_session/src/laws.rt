@@ -11,8 +11,8 @@ ghost use Rattle.lj_session.specs.AcceptedUploads.{AreAcceptedOf, AreAcceptedOfA
 ghost use Rattle.lj_session.specs.BuildReplies.{BuildReplies};
 ghost use Rattle.lj_session.specs.Driving.{IsBuilding, IsLeastPlan};
 ghost use Rattle.lj_session.specs.Outcomes.{Outcome, UploadGives};
-ghost use Rattle.lj_session.specs.Sessions.{GoesOn, IsAsking, SessionValue, new_session, with_bound, with_plan_for};
-ghost use Rattle.lj_session.specs.Sessions.{with_settle, with_upload};
+ghost use Rattle.lj_session.specs.Sessions.{AsksInside, GoesOn, IsAsking, SessionValue, new_session, with_bound};
+ghost use Rattle.lj_session.specs.Sessions.{with_plan_for, with_settle, with_upload};
 ghost use Rattle.lj_session.specs.declared.asks.Ask.{Ask};
 
 use lj_blockfile::one_reading_law;
@@ -30,6 +30,11 @@ pub fn one_outcome_law()
     one_reading_law();
     outcome_law();
 }
+
+/// What a session asks is about a cell of its frame.
+pub fn ask_law()
+    ensures { (s : SessionValue) (ask : Ask) → IsAsking s ask → AsksInside s.frame ask }
+{}
 
 /// How a session is served as `build` serves it: it starts, goes on over commands whose replies need no table, gets
 /// what it asks for, and ends with the replies of `build` and with the accepted uploads of its section.

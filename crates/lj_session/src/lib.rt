@@ -16,7 +16,7 @@ mod terms;
 
 pub use asks::Ask;
 pub use ends::{Replies, SessionEnd, Uploads};
-pub use laws::{building_law, one_outcome_law};
+pub use laws::{ask_law, building_law, one_outcome_law};
 pub use limits::MAX_WRITTEN;
 pub use reasons::Reason;
 pub use sessions::Session;
