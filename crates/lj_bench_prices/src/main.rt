@@ -1,4 +1,4 @@
-//! Closes the bounds of a frame without uploads, and then finds the least price at each cell so many times: what
+//! Closes the bounds of a frame without uploads, and then finds the least price at each cell as often as asked: what
 //! `bench/prices.rs` does by hand. It writes the sum of the bounds and that of the prices.
 #![tactic(auto)]
 
@@ -108,7 +108,7 @@ fn sweep(frame: Frame, bounds: &mut Vec<u64>) -> bool
     fell
 }
 
-// Finds the prices of all cells so many times; their sum.
+// Finds the prices of all cells that many times; their sum.
 fn passes(frame: Frame, bounds: &[u64], times: u64) -> u64
     requires { AreBounds frame bounds.now }
 {

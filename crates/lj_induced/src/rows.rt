@@ -48,8 +48,7 @@ fn price_of(row: &Row, prices: &[u64; 26]) -> u64
     price
 }
 
-// For each number of points what a cut of that many points costs, as far as the cell and a block of the frame have
-// them.
+// The price of a cut of each number of points that the cell and a block of the frame have.
 fn cut_prices(frame: Frame, bounds: &[u64], cell: Cell) -> [u64; 26]
     requires inside { InFrame frame cell }
     requires bounds { AreBounds frame bounds.now }

@@ -1,5 +1,7 @@
+ghost use Rattle.std.specs.Prelude.{All};
 ghost use Rattle.lj_base.specs.Bounds.{AreBounds};
 ghost use Rattle.lj_base.specs.Frames.{InFrame};
+ghost use Rattle.lj_induced.specs.Rows.{IsRowAt};
 
 use crate::lists::{are_bounds, are_rows, fresh, mixed, mixed_row};
 use crate::plain;
@@ -109,6 +111,7 @@ fn is_plain(frame: Frame, numbers: &[u64], c: Cell) -> bool
     let all = plain::lesser(plain::lesser(elementary, product), induced);
     elementary_cost(frame, numbers, c) == elementary
         && product_cost(frame, numbers, c) == product
+        && induced_cost(frame, numbers, &rows, c) == induced
         && least_instance(frame, numbers, &rows, c).cost() == all
         && least_price(frame, numbers, &rows, c) == all
 }
@@ -126,5 +129,14 @@ fn product_cost(frame: Frame, numbers: &[u64], c: Cell) -> Option<u64>
     requires bounds { AreBounds frame numbers.now }
 {
     let choice = best_product(frame, numbers, c)?;
+    Some(choice.cost)
+}
+
+fn induced_cost(frame: Frame, numbers: &[u64], rows: &[Row], c: Cell) -> Option<u64>
+    requires inside { InFrame frame c }
+    requires bounds { AreBounds frame numbers.now }
+    requires rows { All (IsRowAt frame c) rows.now }
+{
+    let choice = best_induced(frame, numbers, rows, c)?;
     Some(choice.cost)
 }
