@@ -35,8 +35,14 @@ fits_spare a a2 q e h = subst (λ x. Fits x q) (sym e) (record {
 pub table_spare : (t : Contents) (a2 : Nodes) → a2 ≡ record t.arena { spare = a2.spare } → IsTable t
     → IsTable (record t { arena = a2 })
 table_spare t a2 e h = subst (λ x. IsTable (record t { arena = x })) (sym e) (record {
-  lists = record { bounds = h.lists.bounds; nodes = h.lists.nodes; closed = h.lists.closed; busy =
-      h.lists.busy; index = h.lists.index };
+  lists = record {
+    bounds = h.lists.bounds;
+    nodes = h.lists.nodes;
+    closed = h.lists.closed;
+    busy =
+        h.lists.busy;
+    index = h.lists.index;
+  };
   good = h.good;
   nodes = λ c at. let w = h.nodes c at in record { there = w.there; cell = w.cell; cost = w.cost };
   busy = h.busy;
@@ -92,7 +98,7 @@ pub last_is : (us us2 : List Upload) (u : Upload) (i : ℕ) → us2 ≡ us ++ u 
 last_is us us2 u i e at = ap (λ xs. upload_at xs i) e ∙ ap (upload_at (us ++ u ∷ [])) at ∙ get_or-append_seam us u [] _
 
 module _ (t n : Contents) (a2 : Nodes) (u : Upload) (table : IsTable t) (p : IsPushed t.arena u a2)
-(k : IsTakenIn u (record t { arena = a2 }) n) where
+    (k : IsTakenIn u (record t { arena = a2 }) n) where
   in_a2 : (c : Triple) → InFrame t.arena.frame c → InFrame a2.frame c
   in_a2 c at = subst (λ f. InFrame f c) (sym p.frame) at
 
@@ -103,13 +109,18 @@ module _ (t n : Contents) (a2 : Nodes) (u : Upload) (table : IsTable t) (p : IsP
       ((mark_at f t.closed d ≡ false) ⊎ ((d.t ≡ u.cell.t) × (d.v ≤ u.cell.v)) ⊎ ReadsFallen f t.bounds n.bounds d))
       p.frame (k.opened d (in_a2 d at))
 
-  step_in : Accepts (state_of t) u (record { frame = n.arena.frame; uploads = n.arena.uploads; bounds =
-      at_cell t.arena.frame n.bounds; pending = λ c. not (mark_at t.arena.frame n.closed c) })
+  step_in : Accepts (state_of t) u (record {
+    frame = n.arena.frame;
+    uploads = n.arena.uploads;
+    bounds =
+        at_cell t.arena.frame n.bounds;
+    pending = λ c. not (mark_at t.arena.frame n.closed c);
+  })
   step_in = record {
     frame = k.frame ∙ p.frame;
     uploads = k.uploads ∙ p.uploads;
     bounds = λ c at. subst (λ f. IsLesser u c (at_cell f t.bounds c) (at_cell f n.bounds c)) p.frame
-    (k.bounds c (in_a2 c at));
+        (k.bounds c (in_a2 c at));
     pending = λ d at. (
       λ q. ⊎_elim (λ e. inl ((not_iff (mark_at t.arena.frame t.closed d)).1 e))
           (λ w. inr (⊎_elim (λ s. inl s) (λ r. inr (r.cell, r.inside, r.fell, r.reads)) w))
@@ -117,14 +128,19 @@ module _ (t n : Contents) (a2 : Nodes) (u : Upload) (table : IsTable t) (p : IsP
       λ w. (not_iff (mark_at t.arena.frame n.closed d)).1
           ((marks d at).1 (⊎_elim (λ e. inl ((not_iff (mark_at t.arena.frame t.closed d)).0 e))
           (λ v. inr (⊎_elim (λ s. inl s) (λ r. inr (record { cell = r.0; inside = r.1; fell = r.2; reads = r.3 })) v))
-              w)),
+          w)),
     );
   }
 
   pub accept_is : Accepts (state_of t) u (state_of n)
   accept_is = subst (λ h. Accepts (state_of t) u
-      (record { frame = n.arena.frame; uploads = n.arena.uploads; bounds = at_cell h n.bounds; pending = λ c. not
-      (mark_at h n.closed c) })) (sym (k.frame ∙ p.frame)) step_in
+      (record {
+        frame = n.arena.frame;
+        uploads = n.arena.uploads;
+        bounds = at_cell h n.bounds;
+        pending = λ c. not
+            (mark_at h n.closed c);
+      })) (sym (k.frame ∙ p.frame)) step_in
 
   busy_after : (j : ℕ) → get_or n.closed j false ≡ true → get_or n.busy j false ≡ true
   busy_after j h = still_busy t.closed t.busy n.closed n.busy j k.marks (table.busy j) h
@@ -149,6 +165,6 @@ module _ (t n : Contents) (a2 : Nodes) (u : Upload) (table : IsTable t) (p : IsP
         subst (λ f. AreNodes f n.arena n.nodes n.bounds) (sym k.frame)
         (k.are (λ c at. node_pushed t.arena a2 u p (at_cell a2.frame t.nodes c) c (at_cell a2.frame t.bounds c)
         (subst (λ f. IsNodeOf t.arena (at_cell f t.nodes c) c (at_cell f t.bounds c)) (sym p.frame)
-            (table.nodes c (subst (λ f. InFrame f c) p.frame at)))));
+        (table.nodes c (subst (λ f. InFrame f c) p.frame at)))));
     busy = busy_after;
   }

@@ -31,7 +31,7 @@ pub first_all : (v t k : ℕ) → (eqb t 0 || eqb k v) ≡ false → eqb t 1 ≡
     → first_at v t k ≡ choose v k
 first_all v t zero e1 e2 e3 = absurd (apart (sym e3 ∙ or_left (eqb t 0) (eqb 0 v) e1))
 first_all v t (suc k) e1 e2 e3 = ap
-(λ b. cond b 1 (cond (eqb t 1) (ceil_div v (suc k)) (cond (eqb t (suc k)) (choose v (suc k)) (first_at v t k)))) e1
+    (λ b. cond b 1 (cond (eqb t 1) (ceil_div v (suc k)) (cond (eqb t (suc k)) (choose v (suc k)) (first_at v t k)))) e1
     ∙ ap (λ b. cond b (ceil_div v (suc k)) (cond (eqb t (suc k)) (choose v (suc k)) (first_at v t k))) e2
     ∙ ap (λ b. cond b (choose v (suc k)) (first_at v t k)) e3
 
@@ -41,7 +41,7 @@ first_grow v t zero e1 e2 e3 low = absurd (omega (arith, low))
 first_grow v t (suc k) e1 e2 e3 low =
     let less : suc k - 1 ≡ k = omega arith in
     ap (λ b. cond b 1 (cond (eqb t 1) (ceil_div v (suc k)) (cond (eqb t (suc k)) (choose v (suc k)) (first_at v t k))))
-        e1
+    e1
     ∙ ap (λ b. cond b (ceil_div v (suc k)) (cond (eqb t (suc k)) (choose v (suc k)) (first_at v t k))) e2
     ∙ ap (λ b. cond b (choose v (suc k)) (first_at v t k)) e3 ∙ ap (first_at v t) (sym less)
 
@@ -90,11 +90,11 @@ begun_next f j a bounds nodes c r i cost a2 inside at b added stands costs low =
   node = each_next f b.index (λ d. at_cell f (set nodes j i) d ≡ index_of f d) j c inside at
       (λ d h k. get_or-set_other nodes j (index_of f d) i 0 (λ e. absurd (omega (arith, e, k))) ∙ b.node d h k)
       (ap (λ m. get_or (set nodes j i) m 0) at ∙ get_or-set_same nodes j i 0 (omega (arith, low, b.nodes_len))
-          ∙ sym here);
+      ∙ sym here);
   bound = each_next f b.index (λ d. at_cell f (set bounds j cost) d ≡ first_bound d) j c inside at
       (λ d h k. get_or-set_other bounds j (index_of f d) cost 0 (λ e. absurd (omega (arith, e, k))) ∙ b.bound d h k)
       (ap (λ m. get_or (set bounds j cost) m 0) at ∙ get_or-set_same bounds j cost 0 (omega (arith, low, b.bounds_len))
-          ∙ costs ∙ ap tree_cost added.tree ∙ stands.cost);
+      ∙ costs ∙ ap tree_cost added.tree ∙ stands.cost);
 }
   where
     here : index_of f c ≡ i
@@ -137,20 +137,20 @@ pub first_small : (v t k : ℕ) → 1 ≤ v → t ≤ k → k ≤ v → first_at
 first_small v t zero some low high = choose_some v t (omega (arith, low, high))
 first_small v t (suc k) some low high = ⊎_elim
     (λ e. subst (λ b. cond b 1 (cond (eqb t 1) (ceil_div v (suc k))
-        (cond (eqb t (suc k)) (choose v (suc k)) (first_at v t k))) ≤ choose v t) (sym e)
-        (choose_some v t (omega (arith, low, high))))
+    (cond (eqb t (suc k)) (choose v (suc k)) (first_at v t k))) ≤ choose v t) (sym e)
+    (choose_some v t (omega (arith, low, high))))
     (λ e. subst (λ b. cond b 1 (cond (eqb t 1) (ceil_div v (suc k))
-        (cond (eqb t (suc k)) (choose v (suc k)) (first_at v t k))) ≤ choose v t) (sym e)
+    (cond (eqb t (suc k)) (choose v (suc k)) (first_at v t k))) ≤ choose v t) (sym e)
     (⊎_elim
     (λ e1. subst (λ b. cond b (ceil_div v (suc k))
-        (cond (eqb t (suc k)) (choose v (suc k)) (first_at v t k)) ≤ choose v t) (sym e1)
+    (cond (eqb t (suc k)) (choose v (suc k)) (first_at v t k)) ≤ choose v t) (sym e1)
     (subst (λ m. ceil_div v (suc k) ≤ choose v m) (sym (eqb-true t 1 e1))
-        (subst (λ m. ceil_div v (suc k) ≤ m) (sym (choose_one v)) (ceil_small v k some))))
+    (subst (λ m. ceil_div v (suc k) ≤ m) (sym (choose_one v)) (ceil_small v k some))))
     (λ e1. subst (λ b. cond b (ceil_div v (suc k))
-        (cond (eqb t (suc k)) (choose v (suc k)) (first_at v t k)) ≤ choose v t) (sym e1)
+    (cond (eqb t (suc k)) (choose v (suc k)) (first_at v t k)) ≤ choose v t) (sym e1)
     (⊎_elim
     (λ e2. subst (λ b. cond b (choose v (suc k)) (first_at v t k) ≤ choose v t) (sym e2)
-        (subst (λ m. choose v (suc k) ≤ choose v m) (sym (eqb-true t (suc k) e2)) (same_le (choose v (suc k)))))
+    (subst (λ m. choose v (suc k) ≤ choose v m) (sym (eqb-true t (suc k) e2)) (same_le (choose v (suc k)))))
     (λ e2. subst (λ b. cond b (choose v (suc k)) (first_at v t k) ≤ choose v t) (sym e2)
     (first_small v t k some (omega (arith, low, eqb-false t (suc k) e2)) (omega (arith, high))))
     (cases_Bool (eqb t (suc k)))))

@@ -34,9 +34,9 @@ first_one : (v t k : ℕ) → (t ≡ 0) ⊎ (k ≡ v) → first_at v t k ≤ 1
 first_one v t zero h = omega arith
 first_one v t (suc k) h = ⊎_elim
     (λ e. subst (λ b. cond b 1 (cond (eqb t 1) (ceil_div v (suc k))
-        (cond (eqb t (suc k)) (choose v (suc k)) (first_at v t k))) ≤ 1) (sym e) one)
+    (cond (eqb t (suc k)) (choose v (suc k)) (first_at v t k))) ≤ 1) (sym e) one)
     (λ e. absurd (⊎_elim (λ z. eqb-false t 0 (or_left (eqb t 0) (eqb (suc k) v) e) z)
-        (λ w. eqb-false (suc k) v (or_right (eqb t 0) (eqb (suc k) v) e) w) h))
+    (λ w. eqb-false (suc k) v (or_right (eqb t 0) (eqb (suc k) v) e) w) h))
     (cases_Bool (eqb t 0 || eqb (suc k) v))
   where
     one : 1 ≤ 1
@@ -46,7 +46,7 @@ first_runs : (v k : ℕ) → 1 ≤ v → 1 ≤ k → first_at v 1 k ≤ ceil_div
 first_runs v zero some low = absurd (omega (arith, low))
 first_runs v (suc k) some low = ⊎_elim
     (λ e. subst (λ b. cond b 1 (ceil_div v (suc k)) ≤ ceil_div v (suc k)) (sym e)
-        ((le-div_iff_mul-le (omega arith)).1 (omega (arith, some))))
+    ((le-div_iff_mul-le (omega arith)).1 (omega (arith, some))))
     (λ e. subst (λ b. cond b 1 (ceil_div v (suc k)) ≤ ceil_div v (suc k)) (sym e) (same (ceil_div v (suc k))))
     (cases_Bool (eqb (suc k) v))
   where
@@ -81,7 +81,7 @@ all_long zero = refl
 all_long (suc n) = ap suc (all_long n)
 
 module _ (a : Nodes) (bounds nodes : List ℕ) (b : IsBegun a.frame (size_of a.frame) a bounds nodes)
-(d : AreDerived a) where
+    (d : AreDerived a) where
   first : (c : Triple) → InFrame a.frame c → at_cell a.frame bounds c ≡ first_bound c
   first c h = b.bound c h (b.index.below c h)
 
@@ -95,8 +95,14 @@ module _ (a : Nodes) (bounds nodes : List ℕ) (b : IsBegun a.frame (size_of a.f
       let open_ : (i : ℕ) → get_or closed i false ≡ false =
       λ i. ap (λ xs. get_or xs i false) e1 ∙ all_false (size_of a.frame) i in
       record {
-        lists = record { bounds = b.bounds_len; nodes = b.nodes_len; closed = ap length e1 ∙ all_long
-            (size_of a.frame); busy = ap length e2 ∙ all_long (size_of a.frame); index = b.index };
+        lists = record {
+          bounds = b.bounds_len;
+          nodes = b.nodes_len;
+          closed = ap length e1 ∙ all_long
+              (size_of a.frame);
+          busy = ap length e2 ∙ all_long (size_of a.frame);
+          index = b.index;
+        };
         good = record {
           uploads = subst (λ us. AreUploads a.frame us) (sym b.uploads) (λ k w low. absurd (omega (arith, low)));
           derivable = λ c h. node_derivable a (index_of a.frame c) c (at_cell a.frame bounds c) d (node c h);
@@ -105,9 +111,9 @@ module _ (a : Nodes) (bounds nodes : List ℕ) (b : IsBegun a.frame (size_of a.f
               (subst (λ us. ForUpload (Contains us) r) b.uploads u.upload_from));
           closed = λ c r h shut i. absurd (apart (sym (ap not (open_ (index_of a.frame c))) ∙ shut));
           small = λ c h. subst (λ n. n ≤ choose c.v c.t) (sym (first c h))
-          (first_small c.v c.t c.k h.cell.0 h.cell.2 h.cell.3);
+              (first_small c.v c.t c.k h.cell.0 h.cell.2 h.cell.3);
         };
         nodes = λ c h. subst (λ i. IsNodeOf a i c (at_cell a.frame bounds c)) (sym (b.node c h (b.index.below c h)))
-        (node c h);
+            (node c h);
         busy = λ i h. absurd (apart (sym h ∙ open_ i));
       }

@@ -31,7 +31,7 @@ both_opened c1 b1 c2 b2 c3 b3 g h = record {
   untaken = λ i. (
     λ q. ⊎_elim
         (λ e. ⊎_elim (λ k. inl k) (λ r. inr (record { before = r.before; after = stays i r.after }))
-            ((g.untaken i).0 e))
+        ((g.untaken i).0 e))
         (λ r. inr (record { before = g.falls i r.before; after = r.after })) ((h.untaken i).0 q),
     λ w. ⊎_elim (λ e. (h.untaken i).1 (inl ((g.untaken i).1 (inl e))))
         (λ r. ⊎_elim (λ up. (h.untaken i).1 (inr (record { before = up; after = r.after })))
@@ -63,9 +63,11 @@ still_taken c1 b1 c2 b2 i h =
     (cases_Bool (get_or c2 i false)))
     (λ down.
     let now : get_or c2 i false ≡ false = stays down in
-    let same : get_or b2 i false ≡ get_or b1 i false = same_bool (get_or b2 i false) (get_or b1 i false)
-    (λ q. ⊎_elim (λ e. e) (λ r. absurd (apart (sym r.before ∙ down))) ((h.untaken i).0 q), λ e. (h.untaken i).1
-        (inl e)) in
+    let same : get_or b2 i false ≡ get_or b1 i false = same_bool (get_or b2 i false) (get_or b1 i false) (
+      λ q. ⊎_elim (λ e. e) (λ r. absurd (apart (sym r.before ∙ down))) ((h.untaken i).0 q),
+      λ e. (h.untaken i).1
+          (inl e),
+    ) in
     ap (λ x. x && not (get_or c2 i false)) same ∙ ap (λ x. get_or b1 i false && not x) (now ∙ sym down))
     (cases_Bool (get_or c1 i false))
   where
@@ -120,11 +122,14 @@ opened_one f ix d j closed busy closed2 busy2 inside at r = record {
     falls = λ i t. ⊎_elim (λ e. absurd (apart (sym t ∙ ap (λ k. get_or closed2 k false) e ∙ r.here)))
         (λ other. sym (r.others i other) ∙ t) (cases_eq i j);
     untaken = λ i. ⊎_elim (λ e. subst (IsLoosened closed busy closed2 busy2) (sym e) here) (λ other. away i other)
-    (cases_eq i j);
+        (cases_eq i j);
   };
   opened = λ e i. ⊎_elim
-      (λ same. (λ _. inr same, λ _. ap (λ z. get_or closed2 (index_of f z) false) same ∙ ap
-          (λ k. get_or closed2 k false) (sym at) ∙ r.here))
+      (λ same. (
+        λ _. inr same,
+        λ _. ap (λ z. get_or closed2 (index_of f z) false) same ∙ ap
+            (λ k. get_or closed2 k false) (sym at) ∙ r.here,
+      ))
       (λ other. let kept = r.others (index_of f e) (λ q. other (ix.one e d i inside (q ∙ at))) in
       (λ q. inl (sym kept ∙ q), λ w. ⊎_elim (λ q. kept ∙ q) (λ p. absurd (other p)) w))
       (cell_cases e d);
@@ -132,8 +137,11 @@ opened_one f ix d j closed busy closed2 busy2 inside at r = record {
   where
     here : IsLoosened closed busy closed2 busy2 j
     here = ⊎_elim (λ t. (λ _. inr (record { before = t; after = r.here }), λ _. r.was t))
-        (λ e. (λ b. inl (sym (r.kept e) ∙ b), λ w. r.kept e ∙ ⊎_elim (λ l. l)
-            (λ q. absurd (apart (sym q.before ∙ e))) w))
+        (λ e. (
+          λ b. inl (sym (r.kept e) ∙ b),
+          λ w. r.kept e ∙ ⊎_elim (λ l. l)
+              (λ q. absurd (apart (sym q.before ∙ e))) w,
+        ))
         (cases_Bool (get_or closed j false))
 
     away : (i : ℕ) → i ≢ j → IsLoosened closed busy closed2 busy2 i
@@ -145,7 +153,7 @@ opened_one f ix d j closed busy closed2 busy2 inside at r = record {
 
 -- a walk through the cells that read a cell: of those that it has come to, the ones with P have been opened
 pub record IsWalk (f : Top) (c : Triple) (P : Triple → Type 0) (left : List Triple)
-(closed busy closed2 busy2 : List Bool)
+    (closed busy closed2 busy2 : List Bool)
     : Type 0 where
   pub done : List Triple
   pub readers : AreReaders f c (done ++ left)

@@ -49,7 +49,7 @@ size_of_some short v m w l (b ∷ bs) h some =
     (λ rest. size_of_some short v m w l bs h.1 rest) (or_cases _ _ some)
 
 module _ (a : Nodes) (f : Top) (nodes bounds : Triple → ℕ)
-(has : (c : Triple) → InFrame f c → IsNodeOf a (nodes c) c (bounds c)) where
+    (has : (c : Triple) → InFrame f c → IsNodeOf a (nodes c) c (bounds c)) where
   cells_at : (cs : List Triple) → AllByRecursion (InFrame f) cs
       → root_cells (trees_at (trees_of a.uploads a.rules) (map nodes cs)) ≡ cs
   cells_at [] h = refl
@@ -111,9 +111,9 @@ module _ (a : Nodes) (f : Top) (nodes bounds : Triple → ℕ)
       let back : c.v + 1 - 1 ≡ c.v = omega arith in
       subst (λ d. IsRuleFor a c n (kind_node DropKind (nodes d))) e
       (rule_for c (Drop c) (kind_node DropKind (nodes (triple (c.v + 1) c.k c.t))) n inside i.children_inside refl
-          (record { in_limits = inside.cell; condition = i.condition; upload_covers = tt })
+      (record { in_limits = inside.cell; condition = i.condition; upload_covers = tt })
       (ap (λ (d : Triple). Drop (triple (d.v - 1) d.k d.t)) root ∙ ap (λ v. Drop (triple v c.k c.t)) back) refl tt tt
-          priced small)
+      priced small)
   kind_rule c child AddKind n inside i only priced small =
       let e : triple (c.v - 1) (c.k - 1) c.t ≡ child = cc in
       let root = (has (triple (c.v - 1) (c.k - 1) c.t) i.children_inside.0).cell in
@@ -121,9 +121,9 @@ module _ (a : Nodes) (f : Top) (nodes bounds : Triple → ℕ)
       let k : c.k - 1 + 1 ≡ c.k = omega (arith, i.condition) in
       subst (λ d. IsRuleFor a c n (kind_node AddKind (nodes d))) e
       (rule_for c (TreeRule-add c) (kind_node AddKind (nodes (triple (c.v - 1) (c.k - 1) c.t))) n inside
-          i.children_inside refl (record { in_limits = inside.cell; condition = i.condition; upload_covers = tt })
+      i.children_inside refl (record { in_limits = inside.cell; condition = i.condition; upload_covers = tt })
       (ap (λ (d : Triple). Add (triple (d.v + 1) (d.k + 1) d.t)) root ∙ ap₂ (λ v k. Add (triple v k c.t)) v k) refl tt
-          tt priced small)
+      tt priced small)
     where
       TreeRule-add : Triple → TreeRule
       TreeRule-add d = Add d
@@ -133,18 +133,18 @@ module _ (a : Nodes) (f : Top) (nodes bounds : Triple → ℕ)
       let k : c.k - 1 + 1 ≡ c.k = omega (arith, i.condition.0) in
       subst (λ d. IsRuleFor a c n (kind_node GrowKind (nodes d))) e
       (rule_for c (Grow c) (kind_node GrowKind (nodes (triple c.v (c.k - 1) c.t))) n inside i.children_inside refl
-          (record { in_limits = inside.cell; condition = i.condition; upload_covers = tt })
+      (record { in_limits = inside.cell; condition = i.condition; upload_covers = tt })
       (ap (λ (d : Triple). Grow (triple d.v (d.k + 1) d.t)) root ∙ ap (λ k. Grow (triple c.v k c.t)) k) refl tt tt
-          priced small)
+      priced small)
   kind_rule c child LowerKind n inside i only priced small =
       let e : triple c.v c.k (c.t + 1) ≡ child = cc in
       let root = (has (triple c.v c.k (c.t + 1)) i.children_inside.0).cell in
       let t : c.t + 1 - 1 ≡ c.t = omega arith in
       subst (λ d. IsRuleFor a c n (kind_node LowerKind (nodes d))) e
       (rule_for c (Lower c) (kind_node LowerKind (nodes (triple c.v c.k (c.t + 1)))) n inside i.children_inside refl
-          (record { in_limits = inside.cell; condition = i.condition; upload_covers = tt })
+      (record { in_limits = inside.cell; condition = i.condition; upload_covers = tt })
       (ap (λ (d : Triple). Lower (triple d.v d.k (d.t - 1))) root ∙ ap (λ t. Lower (triple c.v c.k t)) t) refl tt tt
-          priced small)
+      priced small)
 
   -- products
   part_nodes : (c : Triple) (v1 : ℕ) (ps : List PartChoice) → flat_map (λ (p : Part). p.first ∷ p.second ∷ [])
@@ -170,26 +170,26 @@ module _ (a : Nodes) (f : Top) (nodes bounds : Triple → ℕ)
   product_rule c v1 choices count n stored inside few i priced small node =
       subst (IsRuleFor a c n) (sym node.rule)
       (rule_for c (Product c v1 (chosen_parts choices count)) _ n inside i.children_inside refl
-          (record { in_limits = inside.cell; condition = i.condition; upload_covers = tt })
+      (record { in_limits = inside.cell; condition = i.condition; upload_covers = tt })
       (ap (Product c v1) (ap (map (λ (p : Part). let q : TreePart = record { a = p.a; b = p.b; l = p.l } in q))
-          node.are ∙ part_rules c v1 (take count choices)))
+      node.are ∙ part_rules c v1 (take count choices)))
       (ap (flat_map (λ (p : Part). p.first ∷ p.second ∷ [])) node.are ∙ part_nodes c v1 (take count choices)) few tt
-          priced small)
+      priced small)
 
   -- a size of a cut above k
   size_children : Shorter → (c : Triple) (children : List ℕ) (m v : ℕ) (bs : List (List ℕ)) (lo n : ℕ)
       → AreBlocks v m bs → m ≤ 25 → c.k < lo → lo + n ≤ suc c.v
       → ((l : ℕ) → c.k < l → l ≤ c.v → l < 26 → get_or children l 0 ≡ nodes (triple l c.k c.t))
       → map (λ l. get_or children l 0) (filter (λ l. list_any (λ b. eqb (length (cut c.v b)) l) bs)
-          (range_with_len lo n)) ≡ map nodes (map (λ l. triple l c.k c.t)
-          (filter (λ l. list_any (λ b. eqb (length (cut c.v b)) l) bs) (range_with_len lo n)))
+      (range_with_len lo n)) ≡ map nodes (map (λ l. triple l c.k c.t)
+      (filter (λ l. list_any (λ b. eqb (length (cut c.v b)) l) bs) (range_with_len lo n)))
   size_children short c children m v bs lo zero h small from to are = refl
   size_children short c children m v bs lo (suc n) h small from to are =
       let rest = size_children short c children m v bs (lo + 1) n h small (omega arith) (omega arith) are in
       cond_both (list_any (λ b. eqb (length (cut c.v b)) lo) bs) _ _
       (λ ls. map (λ l. get_or children l 0) ls ≡ map nodes (map (λ l. triple l c.k c.t) ls))
       (λ some. let most = size_of_some short v m c.v lo bs h some in ap₂ (λ x xs. x ∷ xs)
-          (are lo from (omega arith) (omega arith)) rest)
+      (are lo from (omega arith) (omega arith)) rest)
       (λ none. rest)
 
   pub induced_rule : Shorter → ((f : Top) (us : List Upload) (c : Triple) (u : Upload) → InFrame f c → Contains us u →
@@ -205,11 +205,11 @@ module _ (a : Nodes) (f : Top) (nodes bounds : Triple → ℕ)
       All-contains (λ u. IsCovering u × InFrame f u.cell) a.uploads (upload_at a.uploads u) covering has_up in
       let i = instances f a.uploads c (upload_at a.uploads u) inside has_up t v in
       let kids = size_children short c node.children (upload_at a.uploads u).cell.k (upload_at a.uploads u).cell.v
-          (upload_at a.uploads u).blocks (suc c.k) (c.v - c.k) facts.0.covers.blocks facts.0.in_limits.4 (omega arith)
-          (omega (arith, inside.cell.3)) node.are in
+      (upload_at a.uploads u).blocks (suc c.k) (c.v - c.k) facts.0.covers.blocks facts.0.in_limits.4 (omega arith)
+      (omega (arith, inside.cell.3)) node.are in
       subst (IsRuleFor a c n) (sym node.rule)
       (rule_for c (Induced (upload_at a.uploads u) c.v c.k) _ n inside i.children_inside i.cell_is
-          (sound_of c (Induced (upload_at a.uploads u) c.v c.k) inside covering i)
+      (sound_of c (Induced (upload_at a.uploads u) c.v c.k) inside covering i)
       refl (kids ∙ ap (λ t. map nodes (map (λ l. triple l c.k t) (sizes_of (upload_at a.uploads u) c.k c.v))) (sym t))
       (sym t) (there, tt) priced small)
 
@@ -232,16 +232,16 @@ module _ (a : Nodes) (f : Top) (nodes bounds : Triple → ℕ)
       let frames : AreUploads f a.uploads = subst (λ g. AreUploads g a.uploads) (sym frame) covering in
       let u = upload_at a.uploads (get_or rows choice.place no_row).upload in
       let facts = All-contains (λ u. IsCovering u × InFrame f u.cell) a.uploads (upload_at a.uploads row.upload) frames
-          (Contains-get_or a.uploads row.upload _ there) in
+      (Contains-get_or a.uploads row.upload _ there) in
       let t : (upload_at a.uploads (get_or rows choice.place no_row).upload).cell.t ≡ c.t =
       ap (λ (w : Upload). w.cell.t) at ∙ is.t in
       let v : c.v ≤ (upload_at a.uploads (get_or rows choice.place no_row).upload).cell.v =
       subst (λ (w : Upload). c.v ≤ w.cell.v) (sym at) is.v in
       let counts : cut_counts c.v (upload_at a.uploads (get_or rows choice.place no_row).upload).blocks ≡
-          (get_or rows choice.place no_row).counts =
+      (get_or rows choice.place no_row).counts =
       ap (λ (w : Upload). cut_counts c.v w.blocks) at ∙ sym is.counts_are in
       let cost : price bounds (Induced (upload_at a.uploads (get_or rows choice.place no_row).upload) c.v c.k) ≡
-          choice.cost =
+      choice.cost =
       priced bounds (upload_at a.uploads row.upload) c.v c.k facts.0.in_limits.4 facts.0.covers.blocks
       ∙ ap₂ (λ d ns. row_price bounds d ns) (same_cell (triple c.v c.k u.cell.t) c refl refl t) counts
       ∙ chosen.cost_is no_row in
