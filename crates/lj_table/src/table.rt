@@ -260,6 +260,9 @@ impl Table {
         ensures uploads { self.new.arena.uploads ≡ self.old.arena.uploads }
         ensures falls { (c : Triple) → InFrame self.old.arena.frame c
             → (state_of self.new).bounds c ≤ (state_of self.old).bounds c }
+        ensures nodes { KeepsNodes self.old self.new }
+        ensures untaken { (c : Triple) → InFrame self.old.arena.frame c → is_taken self.old c ≡ false
+            → is_taken self.new c ≡ false }
         ensures fits { (q : TicketLists) → Fits self.old.arena q → Fits self.new.arena q }
     {
         rest_is_least();
@@ -295,6 +298,10 @@ impl Table {
         ensures frame { self.new.arena.frame ≡ self.old.arena.frame }
         ensures uploads { self.new.arena.uploads ≡ self.old.arena.uploads }
         ensures turn { IsTurn (index_of self.old.arena.frame c) self.old self.new }
+        ensures nodes { KeepsNodes self.old self.new }
+        ensures untaken { is_taken self.new c ≡ false }
+        ensures taken { (d : Triple) → InFrame self.old.arena.frame d → d ≢ c
+            → is_taken self.new d ≡ is_taken self.old d }
         ensures fits { (q : TicketLists) → Fits self.old.arena q → Fits self.new.arena q }
     {
         publish_keeps_good();

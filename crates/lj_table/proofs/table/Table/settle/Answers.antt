@@ -1,10 +1,10 @@
-use Rattle.std.proofs.Common.{◌<◌, ◌≤◌, ◌∙◌, List, ap, get_or, le_trans, subst, subst₂, sym}
+use Rattle.std.proofs.Common.{◌≡◌, ◌<◌, ◌≤◌, ◌∙◌, false, List, ap, get_or, le_trans, subst, subst₂, sym}
 use Rattle.std.specs.List.{AllByRecursion}
 use Rattle.lj_base.specs.Frames.{InFrame, Top, index_of}
 use Rattle.lj_cover.specs.Rules.{Upload}
 use Rattle.lj_table.specs.Settling.{distance}
-use Rattle.lj_table.specs.Tables.{Contents, state_of}
-use Rattle.lj_table.proofs.Distances.{nearer, no_higher}
+use Rattle.lj_table.specs.Tables.{Contents, KeepsNodes, is_taken, state_of}
+use Rattle.lj_table.proofs.Distances.{kept_by_turn, nearer, no_higher, untaken_by_turn}
 use Rattle.lj_table.proofs.table.Table.settle.Goals as goal
 
 pub returns-in_err-reserve-clause-fits : goal.returns-in_err-reserve-clause-fits
@@ -12,6 +12,22 @@ returns-in_err-reserve-clause-fits c q h = c.reserve.ensures.fits q (c.loop-c.in
 
 pub returns-in_err-present_rows-clause-fits : goal.returns-in_err-present_rows-clause-fits
 returns-in_err-present_rows-clause-fits c q h = c.reserve.ensures.fits q (c.loop-c.invariant.fits q h)
+
+pub returns-in_err-reserve-clause-nodes : goal.returns-in_err-reserve-clause-nodes
+returns-in_err-reserve-clause-nodes c =
+    subst (λ (x : Contents). KeepsNodes c.args.self.now x) (sym c.reserve.ensures.same) c.loop-c.invariant.nodes
+
+pub returns-in_err-present_rows-clause-nodes : goal.returns-in_err-present_rows-clause-nodes
+returns-in_err-present_rows-clause-nodes c =
+    subst (λ (x : Contents). KeepsNodes c.args.self.now x) (sym c.reserve.ensures.same) c.loop-c.invariant.nodes
+
+pub returns-in_err-reserve-clause-untaken : goal.returns-in_err-reserve-clause-untaken
+returns-in_err-reserve-clause-untaken c d at was =
+    subst (λ (x : Contents). is_taken x d ≡ false) (sym c.reserve.ensures.same) (c.loop-c.invariant.untaken d at was)
+
+pub returns-in_err-present_rows-clause-untaken : goal.returns-in_err-present_rows-clause-untaken
+returns-in_err-present_rows-clause-untaken c d at was =
+    subst (λ (x : Contents). is_taken x d ≡ false) (sym c.reserve.ensures.same) (c.loop-c.invariant.untaken d at was)
 
 pub present_rows-requires-clause-inside : goal.present_rows-requires-clause-inside
 present_rows-requires-clause-inside c =
@@ -33,6 +49,10 @@ loop-c-preserved c = record {
       (subst (λ bs. get_or bs (index_of c.args.self.now.arena.frame d) 0 ≤ get_or c.args.self.now.bounds
       (index_of c.args.self.now.arena.frame d) 0)
       (sym (ap (λ (t : Contents). t.bounds) c.reserve.ensures.same)) (c.loop-c.invariant.falls d at));
+  nodes = kept_by_turn c.args.self.now c.loop-c.self _ _ _ c.loop-c.invariant.frame c.loop-c.invariant.falls
+      c.loop-c.invariant.nodes c.reserve.ensures.same c.turn.ensures.turn c.turn.ensures.nodes;
+  untaken = untaken_by_turn c.args.self.now c.loop-c.self _ c.turn.new.self _ c.loop-c.invariant.frame
+      c.loop-c.invariant.untaken c.reserve.ensures.same c.turn.ensures.untaken c.turn.ensures.taken;
   fits = λ q h. c.turn.ensures.fits q (c.reserve.ensures.fits q (c.loop-c.invariant.fits q h));
 }
 

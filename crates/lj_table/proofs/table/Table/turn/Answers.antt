@@ -5,8 +5,8 @@ use Rattle.lj_relax.specs.Found.{Evaluation, found_cost}
 use Rattle.lj_relax.specs.Steps.{IsLeastPrice}
 use Rattle.lj_relax.specs.Tickets.{snapshot, snapshot_of}
 use Rattle.lj_table.specs.Lowering.{AgreesWith}
-use Rattle.lj_table.specs.Tables.{Contents, Fits, contents_of}
-use Rattle.lj_table.proofs.Publications.{table_is}
+use Rattle.lj_table.specs.Tables.{Contents, Fits, contents_of, is_taken}
+use Rattle.lj_table.proofs.Publications.{table_is, taken_kept}
 use Rattle.lj_table.proofs.RowLists.{all_of}
 use Rattle.lj_table.proofs.table.Table.turn.Goals as goal
 
@@ -64,6 +64,18 @@ invariant_of-self c =
     (fits c)
     (inside c) (at c) c.lower_here-lowered.ensures c.give_back.ensures (agrees c) c.rows_are_of_uploads.ensures.rows
     c.publish_keeps_good.ensures c.nodes_derive.ensures (inside c) (least c)
+
+pub returns-clause-taken : goal.returns-clause-taken
+unfolding evaluation
+returns-clause-taken c d h other =
+    subst (λ (x : Contents). InFrame x.arena.frame d
+    → is_taken (record (contents_of c.lower_here-lowered.new.self)
+    { closed = c.give_back.new.closed; busy = c.give_back.new.busy }) d
+    ≡ is_taken x d)
+    c.self.view_is
+    (λ k. taken_kept (contents_of c.self.inside.store) (contents_of c.lower_here-lowered.new.self) (evaluation c)
+    c.lower_here-lowered.result true c.index.result c.give_back.new.closed c.give_back.new.busy c.self.invariant
+    (fits c) (inside c) (at c) c.lower_here-lowered.ensures c.give_back.ensures (agrees c) d k other) h
 
 pub returns-clause-fits : goal.returns-clause-fits
 returns-clause-fits c q h =
