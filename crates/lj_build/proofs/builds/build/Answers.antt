@@ -1,0 +1,16 @@
+use Rattle.std.proofs.Common.{rules, ◌≡◌, List, sym, ◌∙◌, map-id}
+use Rattle.std.proofs.lemmas.Iterator.Consumers.{YieldsList-end}
+use Rattle.std.proofs.lemmas.Iterator.Adapters.{YieldsList-from_vec}
+use Rattle.lj_script.specs.Values.{ScriptValue, SectionValue}
+use Rattle.lj_build.proofs.Sections.{built_all}
+use Rattle.lj_build.proofs.builds.build.Goals as goal
+
+pub returns : goal.returns
+returns g c =
+    let sections = c.into_vec-section-items.result in
+    let all = YieldsList-end (YieldsList-from_vec sections.items (search rules) (search rules)) c.loop-section.yielded
+    c.loop-section.section-iterator c.loop-section.yielded_by _ c.next.new.self c.in-None.is c.next.ensures.steps in
+    let done : c.loop-section.yielded ≡ sections.items = sym (map-id _) ∙ all.0 in
+    let script : ScriptValue = record { frame = c.script.inside.frame; clients = c.script.inside.clients } in
+    rw (← c.script.view_is, c.of.ensures) (built_all script c.loop-section.yielded c.loop-section.ends.items
+    c.loop-section.table (done ∙ c.into_vec-section-items.ensures) c.loop-section.invariant)
