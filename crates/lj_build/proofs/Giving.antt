@@ -1,7 +1,6 @@
 -- A session that got what it asked for.
-use Rattle.std.proofs.Common.{◌≡◌, ◌⊎◌, ℕ, ◌+◌, ◌<◌, Bool, true, false, nat_lt, if◌then◌else◌, List, [], ◌∷◌, ◌++◌}
+use Rattle.std.proofs.Common.{◌≡◌, ℕ, ◌+◌, ◌<◌, Bool, true, false, nat_lt, if◌then◌else◌, List, ◌∷◌, ◌++◌}
 use Rattle.std.proofs.Common.{drop, length, refl, sym, ap, ◌∙◌, subst, ⊎_elim, arith}
-use Rattle.std.proofs.lemmas.List.{append_assoc, append-nil, length-append}
 use Rattle.lj_base.specs.Cells.{Triple}
 use Rattle.lj_base.specs.Frames.{InFrame, Top}
 use Rattle.lj_cover.specs.Derivations.{IsLeast, root_cell, tree_cost}
@@ -12,7 +11,7 @@ use Rattle.lj_script.specs.Values.{SectionValue}
 use Rattle.lj_script.specs.declared.scripts.Command.{Command}
 use Rattle.lj_script.specs.declared.scripts.Command.TheVariants.{Plan, Expand}
 use Rattle.lj_session.specs.Driving.{IsBuilding, IsLeastPlan}
-use Rattle.lj_session.specs.Sessions.{GoesOn, IsAsking, SessionValue, with_blocks, with_expansion, with_plan}
+use Rattle.lj_session.specs.Sessions.{GoesOn, IsAsking, SessionValue, with_blocks, with_expansion}
 use Rattle.lj_session.specs.Sessions.{with_plan_for, with_too_big}
 use Rattle.lj_session.specs.declared.asks.Ask.{Ask}
 use Rattle.lj_session.specs.declared.asks.Ask.TheVariants as ask

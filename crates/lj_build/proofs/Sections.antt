@@ -1,11 +1,10 @@
 -- One section more.
-use Rattle.std.proofs.Common.{◌≡◌, ℕ, ◌+◌, ◌*◌, ◌≤◌, List, [], ◌∷◌, ◌++◌, length, refl, sym, ap, ◌∙◌, subst, arith}
+use Rattle.std.proofs.Common.{◌≡◌, List, [], ◌∷◌, ◌++◌, length, refl, sym, ap, ◌∙◌, subst, arith}
 use Rattle.std.proofs.lemmas.List.{append_assoc, append-nil, length-append}
-use Rattle.std.specs.List.{flat_map}
 use Rattle.lj_base.specs.Frames.{Top}
 use Rattle.lj_cover.specs.Rules.{Upload}
 use Rattle.lj_script.specs.Values.{ScriptValue, SectionValue}
-use Rattle.lj_session.specs.AcceptedUploads.{AreAcceptedOf, AreAcceptedOfAll}
+use Rattle.lj_session.specs.AcceptedUploads.{AreAcceptedOfAll}
 use Rattle.lj_session.specs.declared.ends.SessionEnd.{SessionEnd}
 use Rattle.lj_table.specs.Tables.{Contents}
 use Rattle.lj_build.specs.Building.{AreBuiltSoFar, IsSectionBuilt, IsWholeBuilt, Rests}

@@ -1,5 +1,5 @@
 -- One thread drives the sessions over one table.
-use Rattle.std.specs.Prelude.{◌≡◌, ◌≤◌, ◌<◌, ◌*◌, ◌+◌, ℕ, List, [], ◌∷◌, ◌++◌, length}
+use Rattle.std.specs.Prelude.{◌≡◌, ◌≤◌, ◌<◌, ◌*◌, List, [], ◌++◌, length}
 use Rattle.lj_base.specs.Frames.{Top}
 use Rattle.lj_cover.specs.Rules.{Upload}
 use Rattle.lj_script.specs.Values.{ScriptValue, SectionValue}

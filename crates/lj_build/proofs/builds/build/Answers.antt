@@ -1,7 +1,7 @@
-use Rattle.std.proofs.Common.{rules, ◌≡◌, List, sym, ◌∙◌, map-id}
+use Rattle.std.proofs.Common.{rules, ◌≡◌, sym, ◌∙◌, map-id}
 use Rattle.std.proofs.lemmas.Iterator.Consumers.{YieldsList-end}
 use Rattle.std.proofs.lemmas.Iterator.Adapters.{YieldsList-from_vec}
-use Rattle.lj_script.specs.Values.{ScriptValue, SectionValue}
+use Rattle.lj_script.specs.Values.{ScriptValue}
 use Rattle.lj_build.proofs.Sections.{built_all}
 use Rattle.lj_build.proofs.builds.build.Goals as goal
 

@@ -1,4 +1,4 @@
-use Rattle.std.proofs.Common.{◌≡◌, subst}
+use Rattle.std.proofs.Common.{subst}
 use Rattle.lj_session.specs.Sessions.{SessionValue}
 use Rattle.lj_build.specs.Building.{Builds}
 use Rattle.lj_build.proofs.driving.build_section.Goals as goal

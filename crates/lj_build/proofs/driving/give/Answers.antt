@@ -1,9 +1,9 @@
-use Rattle.std.proofs.Common.{◌≡◌, List, [], ◌∷◌, ◌++◌, refl, sym, ap, ◌∙◌, subst}
+use Rattle.std.proofs.Common.{◌≡◌, List, [], ◌∷◌, ◌++◌, refl, sym, ap, ◌∙◌}
 use Rattle.std.proofs.lemmas.List.{append_assoc}
 use Rattle.std.proofs.lemmas.Result.{on_ok_weaker}
 use Rattle.lj_base.specs.Frames.{InFrame}
 use Rattle.lj_cover.specs.Rules.{Upload}
-use Rattle.lj_session.specs.Sessions.{IsAsking, IsNext, SessionValue, asked_cell, asked_upload, with_bound}
+use Rattle.lj_session.specs.Sessions.{IsAsking, asked_cell, asked_upload, with_bound}
 use Rattle.lj_session.specs.Sessions.{with_plan_for, with_settle, with_upload}
 use Rattle.lj_session.specs.declared.asks.Ask.{Ask}
 use Rattle.lj_session.specs.declared.asks.Ask.TheVariants as asked
