@@ -40,7 +40,7 @@ fn both<R: Threads + Abort + Sync>(
     Ok(expected)
 }
 
-// The same of the blocks of lines.
+// The result of both checks of the blocks that the lines spell.
 fn both_of<R: Threads + Abort + Sync>(
     rt: &R,
     alloc: Global,
