@@ -1,7 +1,8 @@
 // The least prices of a frame without uploads by hand, in plain Rust, beside the proved program of the same loops: the
 // closing bounds by a worklist in index order, and then passes over all cells of the closed table.
 // usage: prices V K T PASSES; it writes the number of cells, of evaluations and of lowerings, the sum of all bounds,
-// and the time of one pass, the best of the passes.
+// and the time of one pass, the best of the passes. With `--cfg unchecked` the bounds are read without a test of their
+// places, which safe Rust can't do.
 use std::time::Instant;
 
 #[derive(Clone, Copy)]
@@ -52,9 +53,22 @@ struct Sides {
     second: usize,
 }
 
+#[cfg(not(unchecked))]
+#[inline]
+fn bound_at(bounds: &[u64], i: usize) -> u64 {
+    bounds[i]
+}
+
+#[cfg(unchecked)]
+#[inline]
+fn bound_at(bounds: &[u64], i: usize) -> u64 {
+    debug_assert!(i < bounds.len());
+    unsafe { *bounds.get_unchecked(i) }
+}
+
 #[inline]
 fn price(bounds: &[u64], offsets: &[usize; 27], s: Sides, a: usize, b: usize, l: usize) -> u64 {
-    bounds[s.first + offsets[l] + b] * bounds[s.second + offsets[s.k - l] + (s.t - a)]
+    bound_at(bounds, s.first + offsets[l] + b) * bound_at(bounds, s.second + offsets[s.k - l] + (s.t - a))
 }
 
 fn least_part(bounds: &[u64], offsets: &[usize; 27], s: Sides, a: usize, b: usize, low: usize, high: usize) -> u64 {
