@@ -2,7 +2,7 @@
 //! `bench/prices.rs` does by hand. It writes the sum of the bounds and that of the prices.
 #![tactic(auto)]
 
-ghost use Rattle.std.specs.Prelude.{IfOk};
+ghost use Rattle.std.specs.Prelude.{All, IfOk};
 ghost use Rattle.lj_base.specs.Bounds.{AreBounds};
 ghost use Rattle.lj_base.specs.Frames.{InFrame};
 
@@ -35,7 +35,10 @@ fn main(rt: HostRuntime) -> ExitCode {
     };
     close(frame, &mut bounds);
     let sum = bounds.iter().fold(0u64, |sum, n| sum.wrapping_add(*n));
-    let prices = passes(frame, &bounds, numbers[3]);
+    let Ok(cells) = cells_of(rt.alloc(), frame) else {
+        return ExitCode::FAILURE;
+    };
+    let prices = passes(frame, &cells, &bounds, numbers[3]);
     match write!(out, "sum {sum}\nprices {prices}\n") {
         Ok(()) => ExitCode::SUCCESS,
         Err(_) => ExitCode::FAILURE,
@@ -108,24 +111,37 @@ fn sweep(frame: Frame, bounds: &mut Vec<u64>) -> bool
     fell
 }
 
-// Finds the prices of all cells that many times; their sum.
-fn passes(frame: Frame, bounds: &[u64], times: u64) -> u64
-    requires { AreBounds frame bounds.now }
+// The cells of the frame, in order.
+fn cells_of(alloc: Global, frame: Frame) -> Result<Vec<Cell>, Memory>
+    ensures { IfOk result (λ cells. All (InFrame frame) cells.items) }
+{
+    let mut cells = Vec::new(alloc);
+    for i in 0..frame.size() {
+        cells.push(frame.cell(i))?;
+    }
+    Ok(cells)
+}
+
+// Finds the prices of all cells as many times as asked; their sum.
+fn passes(frame: Frame, cells: &[Cell], bounds: &[u64], times: u64) -> u64
+    requires cells { All (InFrame frame) cells.now }
+    requires bounds { AreBounds frame bounds.now }
 {
     let mut sum = 0;
     for _ in 0..times {
-        sum = total(frame, bounds);
+        sum = total(frame, cells, bounds);
     }
     sum
 }
 
 // The sum of the least prices.
-fn total(frame: Frame, bounds: &[u64]) -> u64
-    requires { AreBounds frame bounds.now }
+fn total(frame: Frame, cells: &[Cell], bounds: &[u64]) -> u64
+    requires cells { All (InFrame frame) cells.now }
+    requires bounds { AreBounds frame bounds.now }
 {
     let mut sum: u64 = 0;
-    for i in 0..frame.size() {
-        if let Some(n) = least_price(frame, bounds, &[], frame.cell(i)) {
+    for c in cells {
+        if let Some(n) = least_price(frame, bounds, &[], *c) {
             sum = sum.wrapping_add(n);
         }
     }

@@ -3,3 +3,5 @@ pub mod Searching
 pub mod Tails
 pub mod Chains
 pub mod Choosing
+pub mod Shifting
+pub mod Splitting

@@ -4,7 +4,7 @@ ghost use Rattle.lj_base.specs.Frames.{InFrame};
 ghost use Rattle.lj_base.specs.Bounds.{AreBounds, at_cell};
 ghost use Rattle.lj_cover.specs.Instances.{price};
 ghost use Rattle.lj_cover.specs.Rules.{Part, Product, Splits, triple};
-ghost use Rattle.lj_product.specs.Products.{IsLeastProduct, IsProductChoice};
+ghost use Rattle.lj_product.specs.Products.{IsLeastProduct, IsLeastProductPrice, IsLeastSplit, IsProductChoice};
 ghost use Rattle.lj_product.specs.Sides.{AreOffsets, AreSides, cell_of};
 
 use crate::choices::{PartChoice, ProductChoice};
@@ -22,13 +22,41 @@ pub fn best_product(frame: Frame, bounds: &[u64], cell: Cell) -> Option<ProductC
     ensures least { IfSome result (IsLeastProduct frame (at_cell frame bounds.now) cell) }
     ensures none { (result ≡ None) ↔ (cell.v ≡ 1) }
 {
+    let offsets = frame.row_offsets();
+    let (sides, _) = best_split(frame, bounds, &offsets, cell)?;
+    Some(choice_with(frame, bounds, &offsets, sides))
+}
+
+/// The price of `best_product`, without its parts, which it need not find.
+pub fn best_product_price(frame: Frame, bounds: &[u64], cell: Cell) -> Option<u64>
+    requires inside { InFrame frame cell }
+    requires bounds { AreBounds frame bounds.now }
+    ensures least { IfSome result (IsLeastProductPrice frame (at_cell frame bounds.now) cell) }
+    ensures none { (result ≡ None) ↔ (cell.v ≡ 1) }
+{
+    let offsets = frame.row_offsets();
+    let (_, price) = best_split(frame, bounds, &offsets, cell)?;
+    Some(price)
+}
+
+// The sides of a product of least price at the cell, and that price.
+fn best_split(
+    frame: Frame,
+    bounds: &[u64],
+    offsets: &[usize; 27],
+    cell: Cell,
+) -> Option<(Sides, u64)>
+    requires inside { InFrame frame cell }
+    requires bounds { AreBounds frame bounds.now }
+    requires offsets { AreOffsets frame offsets.now }
+    ensures least { IfSome result (λ best. IsLeastSplit frame (at_cell frame bounds.now) cell best.0 best.1) }
+    ensures none { (result ≡ None) ↔ (cell.v ≡ 1) }
+{
     let (v, k, t) = numbers_of(frame, cell);
     if v < 2 {
         return None;
     }
-    let offsets = frame.row_offsets();
-    let v1 = least_split(frame, bounds, &offsets, v, k, t);
-    Some(choice_with(frame, bounds, &offsets, Sides::of(frame, v, k, t, v1)))
+    Some(least_split(frame, bounds, offsets, v, k, t))
 }
 
 fn numbers_of(frame: Frame, cell: Cell) -> (usize, usize, usize)
@@ -41,7 +69,7 @@ fn numbers_of(frame: Frame, cell: Cell) -> (usize, usize, usize)
     (cell.v as usize, cell.k as usize, cell.t as usize)
 }
 
-// How many points the first side of a product of least price has: at most half of them all.
+// The sides and the price for a cell of two points or more. The first side has at most half of the points.
 fn least_split(
     frame: Frame,
     bounds: &[u64],
@@ -49,28 +77,25 @@ fn least_split(
     v: usize,
     k: usize,
     t: usize,
-) -> usize
+) -> (Sides, u64)
     requires bounds { AreBounds frame bounds.now }
     requires offsets { AreOffsets frame offsets.now }
     requires inside { InFrame frame (triple v k t) }
     requires more { 2 ≤ v }
-    ensures first_side { 1 ≤ result }
-    ensures second_side { result < v }
-    ensures least { (v1 : ℕ) (parts : List Part) → Splits (triple v k t) v1 parts
-        → (own : List Part) × Splits (triple v k t) result own
-        × (price (at_cell frame bounds.now) (Product (triple v k t) result own)
-        ≤ price (at_cell frame bounds.now) (Product (triple v k t) v1 parts)) }
+    ensures { IsLeastSplit frame (at_cell frame bounds.now) (triple v k t) result.0 result.1 }
 {
-    let mut least = least_with(frame, bounds, offsets, Sides::of(frame, v, k, t, 1));
-    let mut split = 1;
+    let mut s = Sides::of(frame, v, k, t, 1);
+    let mut split = s;
+    let mut least = least_with(frame, bounds, offsets, s);
     for v1 in 2..v / 2 + 1 {
-        let cost = least_with(frame, bounds, offsets, Sides::of(frame, v, k, t, v1));
+        s = s.shifted(frame, offsets);
+        let cost = least_with(frame, bounds, offsets, s);
         if cost < least {
             least = cost;
-            split = v1;
+            split = s;
         }
     }
-    split
+    (split, least)
 }
 
 // The least price of a product with these sides.

@@ -1,5 +1,5 @@
 -- What was found of each kind, put together.
-use Rattle.std.proofs.Common.{◌≡◌, ℕ, ◌⊎◌, inl, inr, ⊎_elim, List, [], get_or, sym, subst, arith}
+use Rattle.std.proofs.Common.{◌≡◌, ℕ, ◌⊎◌, inl, inr, ⊎_elim, List, [], Option, get_or, sym, subst, arith}
 use Rattle.std.proofs.lemmas.List.Elements.{All-contains, Contains-get_or}
 use Rattle.std.specs.List.{All, Contains}
 use Rattle.std.specs.Option.{IfSome}
@@ -26,7 +26,7 @@ use Rattle.lj_cover.specs.Rules.{
 }
 use Rattle.lj_product.specs.Products.{product_of}
 use Rattle.lj_relax.specs.Found.{IsFound, IsLeastFound, found_cost}
-use Rattle.lj_relax.specs.Steps.{IsAtMost, IsPrice, Snapshot}
+use Rattle.lj_relax.specs.Steps.{IsAtMost, IsLeastPrice, IsPrice, Snapshot}
 use Rattle.lj_relax.specs.declared.found.Found.{Found}
 use Rattle.lj_relax.specs.declared.found.Found.TheVariants.{
   Elementary as ElementaryFound,
@@ -37,7 +37,7 @@ use Rattle.lj_relax.specs.declared.found.Found.TheVariants.{
 use Rattle.lj_rules.specs.Elementary.{IsElementary, rule_of_kind}
 
 -- the cost of what was found is a price
-found_price : (frame : Top) (a : Snapshot) (found : Found) → IsFound frame a found
+pub found_price : (frame : Top) (a : Snapshot) (found : Found) → IsFound frame a found
     → IfSome (found_cost found) (IsPrice frame a)
 found_price frame a (ElementaryFound choice) h = inl (rule_of_kind choice.kind a.cell, h.instance, h.cost_is)
 found_price frame a (ProductFound choice) h = inl (product_of a.cell choice, h.instance, h.cost_is)
@@ -69,6 +69,23 @@ by_kind frame c P elementary product (Leaf u) i = absurd i.step
 by_kind frame c P elementary product (Derived u x) i = absurd i.step
 by_kind frame c P elementary product (Derived2 u x y) i = absurd i.step
 
+-- a price that is at most each price of each kind is the least
+pub least_of_kinds : (frame : Top) (a : Snapshot) (best : Option ℕ) → IfSome best (IsPrice frame a)
+    → ((r : Rule) → IsElementary r → IsInstance frame [] a.cell r → IsAtMost best (price a.bounds r))
+    → ((v1 : ℕ) (parts : List Part) → IsInstance frame [] a.cell (Product a.cell v1 parts)
+    → IsAtMost best (price a.bounds (Product a.cell v1 parts)))
+    → All (λ (row : Row). IsAtMost best (row_price a.bounds a.cell row.counts)) a.rows
+    → IsLeastPrice frame a best
+least_of_kinds frame a best is elementary product rows = record {
+  is_price = is;
+  least = λ n one. ⊎_elim
+      (λ i. subst (IsAtMost best) i.2
+      (by_kind frame a.cell (λ r. IsAtMost best (price a.bounds r)) elementary product i.0 i.1))
+      (λ i. subst (IsAtMost best) i.2
+      (All-contains (λ (row : Row). IsAtMost best (row_price a.bounds a.cell row.counts)) a.rows i.0 rows i.1))
+      one;
+}
+
 -- what is at most each price of each kind is of least price
 pub least_found : (frame : Top) (a : Snapshot) (found : Found) → IsFound frame a found
     → ((r : Rule) → IsElementary r → IsInstance frame [] a.cell r → IsAtMost (found_cost found) (price a.bounds r))
@@ -78,17 +95,15 @@ pub least_found : (frame : Top) (a : Snapshot) (found : Found) → IsFound frame
     → IsLeastFound frame a found
 least_found frame a found is elementary product rows = record {
   instance = is;
-  price = record {
-    is_price = found_price frame a found is;
-    least = λ n one. ⊎_elim
-        (λ i. subst (IsAtMost (found_cost found)) i.2
-        (by_kind frame a.cell (λ r. IsAtMost (found_cost found) (price a.bounds r)) elementary product i.0 i.1))
-        (λ i. subst (IsAtMost (found_cost found)) i.2
-        (All-contains (λ (row : Row). IsAtMost (found_cost found) (row_price a.bounds a.cell row.counts)) a.rows i.0
-        rows i.1))
-        one;
-  };
+  price = least_of_kinds frame a (found_cost found) (found_price frame a found is) elementary product rows;
 }
+
+-- one of two prices
+pub price_of : (frame : Top) (a : Snapshot) (first second one : Option ℕ) → IfSome first (IsPrice frame a)
+    → IfSome second (IsPrice frame a) → (one ≡ first) ⊎ (one ≡ second) → IfSome one (IsPrice frame a)
+price_of frame a first second one h k e =
+    ⊎_elim (λ q. subst (λ x. IfSome x (IsPrice frame a)) (sym q) h)
+    (λ q. subst (λ x. IfSome x (IsPrice frame a)) (sym q) k) e
 
 -- one of two, of which both are found
 pub one_of : (frame : Top) (a : Snapshot) (first second one : Found) → IsFound frame a first → IsFound frame a second

@@ -1,4 +1,4 @@
-ghost use Rattle.std.specs.Prelude.{◌≡◌, ◌⊎◌, ℕ, All, List, []};
+ghost use Rattle.std.specs.Prelude.{◌≡◌, ◌⊎◌, ℕ, All, IfSome, List, []};
 ghost use Rattle.lj_base.specs.Bounds.{AreBounds, at_cell};
 ghost use Rattle.lj_base.specs.Frames.{InFrame};
 ghost use Rattle.lj_base.specs.declared.Row.{Row};
@@ -6,24 +6,52 @@ ghost use Rattle.lj_cover.specs.Instances.{IsInstance, price, row_price};
 ghost use Rattle.lj_cover.specs.Rules.{Part, Rule, Product};
 ghost use Rattle.lj_induced.specs.Rows.{IsRowAt};
 ghost use Rattle.lj_relax.specs.Found.{IsFound, IsLeastFound, found_cost};
-ghost use Rattle.lj_relax.specs.Steps.{IsAtMost, IsLeastPrice};
+ghost use Rattle.lj_relax.specs.Steps.{IsAtMost, IsLeastPrice, IsPrice};
 ghost use Rattle.lj_relax.specs.Tickets.{snapshot};
 ghost use Rattle.lj_rules.specs.Elementary.{IsElementary};
 
 use crate::found::Found;
 use lj_base::{Cell, Frame, Row};
 use lj_induced::best_induced;
-use lj_product::best_product;
+use lj_product::{best_product, best_product_price};
 use lj_rules::best_elementary;
 
-/// The least price of an elementary rule, a product or a row at the cell. It takes no memory.
+/// The least price of an elementary rule, a product or a row at the cell: that of `least_instance`, without the parts
+/// of its product, which it need not find. It takes no memory.
 pub fn least_price(frame: Frame, bounds: &[u64], rows: &[Row], cell: Cell) -> Option<u64>
     requires inside { InFrame frame cell }
     requires bounds { AreBounds frame bounds.now }
     requires rows { All (IsRowAt frame cell) rows.now }
     ensures { IsLeastPrice frame (snapshot frame cell bounds.now rows.now) result }
 {
-    least_instance(frame, bounds, rows, cell).cost()
+    let elementary = least_elementary(frame, bounds, cell).cost();
+    let product = product_price(frame, bounds, cell);
+    let induced = least_induced(frame, bounds, rows, cell).cost();
+    lesser(lesser(elementary, product), induced)
+}
+
+// The least price of a product.
+fn product_price(frame: Frame, bounds: &[u64], cell: Cell) -> Option<u64>
+    requires inside { InFrame frame cell }
+    requires bounds { AreBounds frame bounds.now }
+    ensures price { (rows : List Row) → IfSome result (IsPrice frame (snapshot frame cell bounds.now rows)) }
+    ensures least { (v1 : ℕ) (parts : List Part) → IsInstance frame [] cell (Product cell v1 parts)
+        → IsAtMost result (price (at_cell frame bounds.now) (Product cell v1 parts)) }
+{
+    best_product_price(frame, bounds, cell)
+}
+
+// The lesser of two prices.
+fn lesser(first: Option<u64>, second: Option<u64>) -> Option<u64>
+    ensures one { (result ≡ first) ⊎ (result ≡ second) }
+    ensures first { (n : ℕ) → IsAtMost first n → IsAtMost result n }
+    ensures second { (n : ℕ) → IsAtMost second n → IsAtMost result n }
+{
+    match (first, second) {
+        (Some(f), Some(s)) => Some(f.min(s)),
+        (Some(_), None) => first,
+        (None, _) => second,
+    }
 }
 
 /// An elementary rule, a product or a row of least price at the cell. It takes no memory.

@@ -7,7 +7,7 @@ use crate::lists::{are_bounds, are_rows, fresh, mixed, mixed_row};
 use crate::plain;
 use lj_base::{Cell, Frame, Row};
 use lj_induced::{InducedChoice, best_induced};
-use lj_product::best_product;
+use lj_product::{best_product, best_product_price};
 use lj_relax::{Found, least_instance, least_price};
 use lj_rules::{Choice, Kind, best_elementary};
 
@@ -27,6 +27,7 @@ fn the_least_elementary_price_and_product_over_fresh_bounds(rt: HostRuntime) {
     assert!(rt; elementary == Some(add));
     let product = best_product(frame, &numbers, cell);
     assert!(rt; matches!(product, Some(choice) if choice.cost == 4));
+    assert!(rt; best_product_price(frame, &numbers, cell) == Some(4));
     assert!(rt; least_price(frame, &numbers, &[], cell) == Some(4));
     let found = least_instance(frame, &numbers, &[], cell);
     assert!(rt; matches!(found, Found::Product { .. }) && found.cost() == Some(4));
@@ -66,6 +67,7 @@ fn a_cell_of_one_point_has_no_product(rt: HostRuntime) {
     assert!(rt; fit && frame.size() == 2);
     let cell = Cell { v: 1, k: 0, t: 0 };
     assert!(rt; best_product(frame, &numbers, cell) == None);
+    assert!(rt; best_product_price(frame, &numbers, cell) == None);
     assert!(rt; best_elementary(frame, &numbers, cell) == None);
     assert!(rt; least_price(frame, &numbers, &[], cell) == None);
 }
