@@ -1,6 +1,6 @@
 -- What is known of a text when some of its lines were read.
 use Rattle.std.proofs.Common.{◌≡◌, ℕ, arith, ◌≤◌, List, [], ◌∷◌, ◌++◌, None, Some, length, refl, sym, ap₂, ◌∙◌, subst}
-use Rattle.std.proofs.Common.{append_assoc, append-nil}
+use Rattle.std.proofs.Common.{append_assoc, append-nil, ap, length-append, ◌<◌}
 use Rattle.std.proofs.lemmas.Slice.Zip.{AllZip-long}
 use Rattle.std.proofs.lemmas.Slice.Zip.{all_zipped_more}
 use Rattle.std.specs.List.{AllByRecursion, AllZip}
@@ -64,9 +64,18 @@ AreBlocksOf-end {body} {v} {k} {bs} few r =
       lines = subst (λ lines. AllZip (λ line b. IsBlockLine (line_text body line) v k b) lines bs) all r.blocks;
     }
 
-pub few_blocks : {body : List ℕ} {v k : ℕ} {bs : List (List ℕ)} → length (text_lines body) ≤ MAX_BLOCKS
-    → AreReadSoFar body v k [] bs → length bs ≤ MAX_BLOCKS
-few_blocks few r = let same = AllZip-long _ _ _ (AreBlocksOf-end few r).lines in omega arith
+-- as many lines as blocks, and one more where a line is left
+pub few_lines : {body : List ℕ} {v k : ℕ} {bs : List (List ℕ)} → AreReadSoFar body v k [] bs → length bs ≤ MAX_BLOCKS
+    → length (text_lines body) ≤ MAX_BLOCKS
+few_lines {body} {v} {k} {bs} r few =
+    let same = AllZip-long _ r.read bs r.blocks in
+    omega (arith, few, same, ap length r.whole, length-append r.read [])
+
+pub more_lines : {body : List ℕ} {v k : ℕ} {line : Line} {left : List Line} {bs : List (List ℕ)}
+    → AreReadSoFar body v k (line ∷ left) bs → MAX_BLOCKS ≤ length bs → MAX_BLOCKS < length (text_lines body)
+more_lines {body} {v} {k} {line} {left} {bs} r full =
+    let same = AllZip-long _ r.read bs r.blocks in
+    omega (arith, full, same, ap length r.whole, length-append r.read (line ∷ left))
 
 pub AreBlocks-from_lines : (body : List ℕ) (v k : ℕ) (lines : List Line) (bs : List (List ℕ))
     → AllZip (λ line b. IsBlockLine (line_text body line) v k b) lines bs → AreBlocks v k bs

@@ -1,5 +1,6 @@
 pub mod Bodies
 pub mod Members
+pub mod Numerals
 pub mod OneReading
 pub mod Reading
 pub mod Unique

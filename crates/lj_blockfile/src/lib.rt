@@ -1,6 +1,7 @@
 //! Block files: blocks read from lines and written as lines.
 #![tactic(auto)]
 
+mod ascending;
 mod fault_texts;
 mod faults;
 mod headers;

@@ -7,7 +7,10 @@ use std::test::Fail;
 #[test]
 fn a_line_has_its_first_fault(rt: HostRuntime) -> Result<(), Fail> {
     // Of five points, lines of three.
-    let rows: [(&[u8], LineFault); 15] = [
+    let rows: [(&[u8], LineFault); 18] = [
+        (b"1 2 10", LineFault::PointRange { value: 10 }),
+        (b"1 2 3x", LineFault::NotNumber { column: 5 }),
+        (b"1 2  ", LineFault::Short { count: 2 }),
         (b"0 1 2", LineFault::PointRange { value: 0 }),
         (b"1 2 6", LineFault::PointRange { value: 6 }),
         (b"1 2 2", LineFault::Repeat { point: 2 }),
@@ -44,7 +47,10 @@ fn a_line_has_its_first_fault(rt: HostRuntime) -> Result<(), Fail> {
 
 #[test]
 fn a_line_holds_a_block(rt: HostRuntime) -> Result<(), Fail> {
-    let rows: [(&[u8], &[u8]); 3] = [
+    let rows: [(&[u8], &[u8]); 6] = [
+        (b"1 2 3", &[0, 1, 2]),
+        (b"1 2 3 ", &[0, 1, 2]),
+        (b"1 2  3", &[0, 1, 2]),
         (b" 3\t1  2 ", &[0, 1, 2]),
         (b"001 2 3", &[0, 1, 2]),
         (b"5 4 3", &[2, 3, 4]),
@@ -53,6 +59,7 @@ fn a_line_holds_a_block(rt: HostRuntime) -> Result<(), Fail> {
         assert_eq!(rt; read_block(line, 5, 3), Ok(block_of(points)), "of {line:?}");
     }
     assert_eq!(rt; read_block(b"99", 99, 1), Ok(block_of(&[98])));
+    assert_eq!(rt; read_block(b"9 10 99", 99, 3), Ok(block_of(&[8, 9, 98])));
     Ok(())
 }
 

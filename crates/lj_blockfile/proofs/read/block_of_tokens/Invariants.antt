@@ -2,7 +2,7 @@ use Rattle.std.proofs.Common.{◌+◌, ◌≤◌, length}
 use Rattle.std.specs.List.{AllByRecursion}
 use Rattle.lj_text.specs.Tokens.{IsTokenOf}
 use Rattle.lj_blockfile.proofs.Reading.{IsUnderway}
-use Rattle.lj_blockfile.proofs.read.read_block.Given as goal
+use Rattle.lj_blockfile.proofs.read.block_of_tokens.Given as goal
 
 abbrev pub invariant-loop-token : goal.invariant-loop-token
 invariant-loop-token l = record {
