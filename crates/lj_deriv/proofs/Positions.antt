@@ -3,7 +3,7 @@ use Rattle.std.proofs.Common.{◌≡◌, ℕ, ◌+◌, ◌-◌, ◌*◌, ◌/◌
 use Rattle.std.proofs.Common.{◌∷◌, ◌++◌, IsTrue, length, map, take, get_or, refl, sym, ap, ◌∙◌, subst, arith}
 use Rattle.std.proofs.Common.{⊎_elim}
 use Rattle.std.proofs.lemmas.Bool.{cases_lt}
-use Rattle.std.proofs.lemmas.List.{get_or_append_left, get_or_push, get_or_read, length_push, take-take}
+use Rattle.std.proofs.lemmas.List.{get_or_append_left, get_or_push, get_or_read, length_push, take-take, take_all}
 use Rattle.std.proofs.lemmas.List.Elements.{Contains-get_or}
 use Rattle.std.proofs.lemmas.List.Sums.{sum_by-take-le, sum_by_more}
 use Rattle.std.proofs.lemmas.Nat.{div-add-mod', mod_below}
@@ -13,10 +13,10 @@ use Rattle.lj_base.specs.Blocks.{Has}
 use Rattle.lj_base.specs.Cells.{Triple}
 use Rattle.lj_cover.specs.BlockLists.{at_size, cut_sizes}
 use Rattle.lj_cover.specs.Cuts.{IsCutSize}
-use Rattle.lj_cover.specs.Derivations.{Tree, node, tree_cost, tree_costs}
+use Rattle.lj_cover.specs.Derivations.{Tree, Trees, node, tree_cost, tree_costs}
 use Rattle.lj_cover.specs.Operations.{cut, has_both, has_point}
 use Rattle.lj_cover.specs.Rules.{Rule as TreeRule, Upload, Induced, cut_cost, rule_cost}
-use Rattle.lj_cover.specs.Sources.{share, source}
+use Rattle.lj_cover.specs.Sources.{IsBlockwise, share, source}
 use Rattle.lj_deriv.specs.declared.rules.Rule.TheVariants.{Derived as DerivedNode, Derived2 as Derived2Node}
 use Rattle.lj_deriv.specs.declared.rules.Rule.TheVariants.{Induced as InducedNode}
 use Rattle.lj_deriv.specs.Nodes.{Steps, step_tree}
@@ -139,6 +139,13 @@ before-add d m n = omega (
 pub before-grows : (d : Tree) (m n : ℕ) → m ≤ n → before d m ≤ before d n
 before-grows d m n order =
     let e : m + (n - m) ≡ n = omega arith in omega (arith, before-add d m (n - m), ap (before d) e)
+
+-- all blocks of the source give the whole
+pub before-whole : ((r : TreeRule) (ns : List ℕ) → IsBlockwise r → rule_cost r ns ≡ sum_by (share r ns) (source r))
+    → (r : TreeRule) (ds : Trees) → IsBlockwise r → before (node r ds) (length (source r)) ≡ tree_cost (node r ds)
+before-whole cost r ds h =
+    ap (sum_by (share r (tree_costs ds))) (take_all (length (source r)) (source r) (omega arith))
+    ∙ sym (cost r (tree_costs ds) h)
 
 -- ---- the running counts
 

@@ -16,16 +16,16 @@ use lj_base::Memory;
 use lj_cover::laws::sizes_of_cuts;
 use std::alloc::Global;
 
-// A copy in the making: what is copied, and the new number of each node and of each upload.
+// A copy in the making: what is copied, and the new number of each upload.
 #[derive(Drop)]
 struct Copying {
     plan: Arena,
-    nodes: Vec<u64>,
     uploads: Vec<u32>,
 }
 
-/// Copies the nodes that the root reaches, in order, and the uploads that they name, in order. It takes time and memory
-/// for each node up to the root and for each upload.
+/// Copies the nodes that the root reaches, in order, and the uploads that they name, in order. Besides these it takes
+/// memory for one mark for each node up to the root, and for a mark and a number for each upload. A child's new number
+/// is found by halving.
 pub fn copy_reached(arena: &Arena, alloc: Global, root: u64) -> Result<Arena, Memory>
     requires there { root < length arena.now.rules }
     requires few { length arena.now.rules ≤ MAX_NODES }
@@ -35,7 +35,6 @@ pub fn copy_reached(arena: &Arena, alloc: Global, root: u64) -> Result<Arena, Me
     let numbers = reached(arena, alloc, root)?;
     let named = uploads_named(arena, alloc, &numbers, root)?;
     let mut copying = copied_uploads(arena, alloc, &named)?;
-    copying.nodes = vec![in alloc; 0; root as usize + 1]?;
     copying.plan.reserve(numbers.len() as u64)?;
     for _node in 0..numbers.len() {
         copying.push_next(arena, &numbers, &named, root);
@@ -55,7 +54,6 @@ fn copied_uploads(arena: &Arena, alloc: Global, named: &[u64]) -> Result<Copying
 {
     let mut copying = Copying {
         plan: Arena::new(alloc, arena.frame()),
-        nodes: Vec::new(alloc),
         uploads: vec![in alloc; 0; arena.uploads().len()]?,
     };
     for u in named {
@@ -88,19 +86,17 @@ impl Copying {
         Ok(())
     }
 
-    // Copies the first of these nodes that is not copied, and keeps its place.
+    // Copies the first of these nodes that is not copied.
     fn push_next(&mut self, arena: &Arena, numbers: &[u64], named: &[u64], root: u64)
         requires there { root < length arena.now.rules }
         requires more { length self.old.plan.rules < length numbers.now }
-        requires copying { IsCopying arena.now root numbers.now named.now self.old.plan
-            self.old.nodes.items self.old.uploads.items }
-        ensures copying { IsCopying arena.now root numbers.now named.now self.new.plan
-            self.new.nodes.items self.new.uploads.items }
+        requires copying { IsCopying arena.now root numbers.now named.now self.old.plan self.old.uploads.items }
+        ensures copying { IsCopying arena.now root numbers.now named.now self.new.plan self.new.uploads.items }
         ensures len { length self.new.plan.rules ≡ length self.old.plan.rules + 1 }
     {
         let node = numbers[self.plan.len() as usize];
         let copy = self.next_copy(arena, node, numbers, named, root);
-        self.nodes[node as usize] = self.plan.add(copy);
+        self.plan.add(copy);
     }
 
     // The node under its new numbers.
@@ -108,14 +104,13 @@ impl Copying {
         requires there { node < length arena.now.rules }
         requires more { length self.now.plan.rules < length numbers.now }
         requires next { node ≡ slice_index numbers.now (length self.now.plan.rules) }
-        requires copying { IsCopying arena.now root numbers.now named.now self.now.plan
-            self.now.nodes.items self.now.uploads.items }
-        ensures { IsNextCopy arena.now self.now.plan numbers.now named.now self.now.nodes.items node result }
+        requires copying { IsCopying arena.now root numbers.now named.now self.now.plan self.now.uploads.items }
+        ensures { IsNextCopy arena.now self.now.plan numbers.now named.now node result }
     {
         sizes_of_cuts();
         let rule = arena.rule(node);
         let upload = self.place_of_upload(rule);
-        renumbered(rule, &self.nodes, upload)
+        renumbered(rule, numbers, upload)
     }
 
     // The place of the copy of the upload that the rule names, and 0 where it names none.

@@ -2,19 +2,19 @@
 #![tactic(auto)]
 
 mod arena;
+mod bounded_lists;
 mod children;
 mod copying;
 mod counts;
 pub mod laws;
 mod limits;
-mod numbers;
 mod plans;
 mod renumbering;
 mod rules;
 mod texts;
 
 pub use arena::Arena;
+pub use bounded_lists::Numbers;
 pub use limits::{MAX_ARENA_UPLOADS, MAX_NODES};
-pub use numbers::Numbers;
 pub use plans::Plan;
 pub use rules::{Part, Rule};

@@ -12,8 +12,8 @@ ghost use Rattle.lj_deriv.specs.Validity.{AreValid, IsNode};
 ghost use Rattle.lj_upload.specs.Uploads.{IsAccepted};
 
 use crate::arena::Arena;
+use crate::bounded_lists::Numbers;
 use crate::counts::{Counts, counts_of};
-use crate::numbers::Numbers;
 use crate::rules::Rule;
 use lj_base::{Block, COST_LIMIT, Cell, Memory};
 use lj_cover::laws::expansion_covers;

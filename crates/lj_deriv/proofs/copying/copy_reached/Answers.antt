@@ -28,9 +28,7 @@ loop-node-init c =
         all_uploads =
             ap (λ (b : Nodes). length b.uploads) same ∙ c.in_ok-copying.ensures.all ∙ ap length c.deref-2.ensures.value;
         copied =
-            IsCopied-start a p c.args.root numbers.items named c.in_ok-copying-2.field-0.items c.in_ok-numbers.ensures
-            (omega (arith, c.in_ok-copying-2.ensures.len, c.in_ok-copying-2.field-0.ok.0)) rules
-            (omega (arith, count, spare, c.len.ensures));
+            IsCopied-start a p numbers.items named rules (omega (arith, count, spare, c.len.ensures));
       };
     }
 
@@ -45,7 +43,7 @@ all c = omega (
 )
 
 pub returns-clause-plan : goal.returns-clause-plan
-returns-clause-plan c = IsPlanOf-copied _ _ _ _ _ _ _ c.loop-node.invariant.copying (all c)
+returns-clause-plan c = IsPlanOf-copied _ _ _ _ _ _ c.loop-node.invariant.copying (all c)
 
 pub returns-clause-whole : goal.returns-clause-whole
-returns-clause-whole c = IsWhole-copied _ _ _ _ _ _ _ c.loop-node.invariant.copying (all c) c.len-copied.ensures.valid
+returns-clause-whole c = IsWhole-copied _ _ _ _ _ _ c.loop-node.invariant.copying (all c) c.len-copied.ensures.valid

@@ -5,6 +5,5 @@ use Rattle.lj_deriv.proofs.copying.copy_reached.Given as goal
 abbrev pub invariant-loop-node : goal.invariant-loop-node
 invariant-loop-node l = record {
   len : length l.copying.plan.rules ≡ l._node;
-  copying : IsCopying l.arena l.root l.numbers.items l.named.items l.copying.plan l.copying.nodes.items
-      l.copying.uploads.items;
+  copying : IsCopying l.arena l.root l.numbers.items l.named.items l.copying.plan l.copying.uploads.items;
 }

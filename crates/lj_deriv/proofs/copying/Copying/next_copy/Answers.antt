@@ -1,12 +1,14 @@
-use Rattle.std.proofs.Common.{◌≡◌, ◌∙◌, length, ap, get_or, subst, sym}
+use Rattle.std.proofs.Common.{◌≡◌, length, get_or, subst, suc, sym}
 use Rattle.std.proofs.lemmas.List.Elements.{Contains-get_or}
 use Rattle.std.specs.List.{AllByRecursion, Contains}
 use Rattle.lj_base.proofs.Lists.{AllByRecursion-both}
 use Rattle.lj_deriv.specs.Trees.{trees_of, uploads_of}
-use Rattle.lj_deriv.specs.Copies.{renumber}
 use Rattle.lj_deriv.proofs.CopySteps.{IsAt, IsAt-kept}
 use Rattle.lj_deriv.proofs.Sizes.{HasPlaces-full}
 use Rattle.lj_deriv.proofs.copying.Copying.next_copy.Goals as goal
+
+pub renumbered-requires : goal.renumbered-requires
+renumbered-requires c = (suc c.args.root, c.requires.copying.reach.ascends)
 
 pub returns : goal.returns
 returns c =
@@ -36,5 +38,5 @@ returns c =
           (uploads_of r)
           (λ u has is. IsAt-kept a p named c.args.self.now.uploads.items q u h.uploads_copied h.all_uploads has is) all
           c.place_of_upload-upload.ensures;
-      copy_is = c.renumbered.ensures.rule ∙ ap (λ ps. renumber ps q r) c.deref.ensures.value;
+      copy_is = c.renumbered.ensures.rule;
     }

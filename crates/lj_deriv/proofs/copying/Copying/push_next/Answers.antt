@@ -15,13 +15,13 @@ next_copy-copy-requires-clause-next c = ap (λ m. get_or c.args.numbers.now m 0)
 
 pub add-requires-clause-valid : goal.add-requires-clause-valid
 add-requires-clause-valid c =
-    copy_valid _ _ _ _ _ _ _ _ _ c.requires.copying c.len.ensures.valid c.requires.more c.next_copy-copy.ensures
+    copy_valid _ _ _ _ _ _ _ _ c.requires.copying c.len.ensures.valid c.requires.more c.next_copy-copy.ensures
 
 pub add-requires-clause-inside : goal.add-requires-clause-inside
 add-requires-clause-inside c =
-    copy_inside _ _ _ _ _ _ _ _ _ c.requires.copying c.len.ensures.valid c.requires.more c.next_copy-copy.ensures
+    copy_inside _ _ _ _ _ _ _ _ c.requires.copying c.len.ensures.valid c.requires.more c.next_copy-copy.ensures
 
 pub returns-clause-copying : goal.returns-clause-copying
 returns-clause-copying c =
-    IsCopying-push _ _ _ _ _ _ _ _ _ _ _ c.requires.copying c.len.ensures.valid c.requires.more c.next_copy-copy.ensures
-    c.add.ensures.rules c.add.ensures.same c.add.ensures.spare c.add.ensures.number
+    IsCopying-push _ _ _ _ _ _ _ _ _ c.requires.copying c.len.ensures.valid c.requires.more c.next_copy-copy.ensures
+    c.add.ensures.rules c.add.ensures.same c.add.ensures.spare
