@@ -1,0 +1,6 @@
+pub mod ContainedSets
+pub mod SetRanks
+pub mod AmongPoints
+pub mod ChangedCounts
+pub mod DoubleCounting
+pub mod BlockTallies

@@ -1,0 +1,9 @@
+use Rattle.std.proofs.Common.{ℕ, ◌≤◌, get_or, take}
+use Rattle.lj_verify.specs.Marks.{IsRankAmong}
+use Rattle.lj_excess.proofs.walks.+among_twice.Given as goal
+
+abbrev pub decreases-among_twice : goal.decreases-among_twice
+decreases-among_twice l = l.t
+
+abbrev pub invariant-loop-i : goal.invariant-loop-i
+invariant-loop-i l = (r : ℕ) → IsRankAmong (take l.i l.block) l.t l.rest r → 2 ≤ get_or l.counts r 0

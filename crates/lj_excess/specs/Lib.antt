@@ -1,0 +1,3 @@
+pub mod Multiplicities
+pub mod Failures
+pub mod Changes
