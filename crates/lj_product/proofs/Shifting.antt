@@ -38,7 +38,7 @@ first_begins f offsets s n sides o e =
     let limits = sides.limits in
     let at = o (n + 1) (omega (arith, limits.4, e)) in
     let after = subst (λ m. cells_before_v f s.v1 + cells_before_k f (m + 1) ≡ cells_before_v f (s.v1 + 1)) (sym e)
-        (begins_after f s.v1 sides.first_side) in
+    (begins_after f s.v1 sides.first_side) in
     omega (arith, sides.first, at, after)
 
 -- and those with as many as the second side before those with one point more
@@ -50,7 +50,7 @@ second_begins f offsets s n sides o more e =
     let at = o (n + 1) (omega (arith, limits.4, e)) in
     let w = s.v - s.v1 - 1 in
     let after = subst (λ m. cells_before_v f w + cells_before_k f (m + 1) ≡ cells_before_v f (w + 1)) (sym e)
-        (begins_after f w (omega arith)) in
+    (begins_after f w (omega arith)) in
     let is : w + 1 ≡ s.v - s.v1 = omega arith in
     let same : s.v - (s.v1 + 1) ≡ w = omega arith in
     subst (λ m. s.second ≡ cells_before_v f m + get_or offsets (n + 1) 0) (sym same)

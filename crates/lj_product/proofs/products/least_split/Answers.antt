@@ -14,7 +14,7 @@ loop-v1-init c =
     let first = c.of-s.ensures in
     let cost = c.least_with-least.ensures in
     let least = subst (λ x. IsLeastWith bounds x s.v1 c.least_with-least.result) first.cell
-    (record { least = cost.least; taken = cost.taken; }) in
+    (record { least = cost.least; taken = cost.taken }) in
     first_of c.args.frame bounds (triple c.args.v c.args.k c.args.t) s c.least_with-least.result first.sides first.cell
     first.v1 (subst (λ n. IsLeastWith bounds (triple c.args.v c.args.k c.args.t) n c.least_with-least.result) first.v1
     least)
@@ -29,11 +29,11 @@ loop-v1-preserved c =
     let is = c.shifted-s.ensures.cell ∙ inv.cell in
     let cost = c.least_with-cost.ensures in
     let least = subst (λ x. IsLeastWith bounds x s.v1 c.least_with-cost.result) is
-    (record { least = cost.least; taken = cost.taken; }) in
+    (record { least = cost.least; taken = cost.taken }) in
     more_of f bounds d c.loop-v1.s c.loop-v1.split s c.loop-v1.least c.loop-v1.v1 c.least_with-cost.result inv
     c.shifted-s.ensures.sides is c.shifted-s.ensures.v1 least c.if-cost-least.split c.if-cost-least.least
     (elim c.if-cost-least.branch [
-      then-cost-least w ↦ inl (w.if-cost-least.true, w.split-is, w.least-is)
+      | then-cost-least w ↦ inl (w.if-cost-least.true, w.split-is, w.least-is)
       | else-cost-least w ↦ inr (w.if-cost-least.false, w.split-is, w.least-is)
     ])
 
