@@ -1,0 +1,4 @@
+pub mod Machines
+pub mod Replays
+pub mod Runs
+pub mod Sameness
