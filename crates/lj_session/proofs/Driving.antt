@@ -50,12 +50,67 @@ local_replies s (c ∷ cs) rest p text more q h r = (
   ap (λ (xs : List ℕ). xs ++ more) h.4 ∙ append_assoc h.0 h.1 more,
 )
 
+-- the replies accept what their commands are to
+upload_accepts : (s : Service) (c : Command) (p : Progress) (text : List ℕ) (q : Progress)
+    → IsUploadReply s c p text q → AcceptsUpload s.frame s.client c p.own q.own
+upload_accepts s c p text q h = (h.0, h.1, ap (λ (x : Progress). x.own) h.3 ∙ own_after s.client p h.0)
+  where
+    own_after : (name : List ℕ) (p : Progress) (o : Outcome) → (and_outcome name p o).own ≡ uploads_after name p.own o
+    own_after name p (Ok d) = refl
+    own_after name p (Err reason) = refl
+
+read_accepts : (s : Service) (c : Triple) (R : ℕ → List ℕ → Progress → Type 0) (p : Progress) (text : List ℕ)
+    (q : Progress) → ((b : ℕ) → R b text q → q.own ≡ p.own) → IsReadReply s c R p text q → q.own ≡ p.own
+read_accepts s c R p text q own (inl out) = ap (λ (x : Progress). x.own) out.2
+read_accepts s c R p text q own (inr h) = own h.1 h.3
+
+blocks_own : (s : Service) (c : Triple) (p : Progress) (b : ℕ) (text : List ℕ) (q : Progress)
+    → ReportsBlocks s c p b text q → q.own ≡ p.own
+blocks_own s c p b text q (inl h) = ap (λ (x : Progress). x.own) h.4
+blocks_own s c p b text q (inr h) = ap (λ (x : Progress). x.own) h.2
+
+one_accepts : (s : Service) (c : Command) (p : Progress) (text : List ℕ) (q : Progress) → IsReply s c p text q
+    → Accepts s.frame s.client c p.own q.own
+one_accepts s (Offered c body) p text q r = upload_accepts s (Offered c body) p text q r
+one_accepts s (UploadFile body) p text q r = upload_accepts s (UploadFile body) p text q r
+one_accepts s (Bound c) p text q r =
+    read_accepts s c (ReportsBound c p) p text q (λ b t. ap (λ (x : Progress). x.own) t.1) r
+one_accepts s (Plan c) p text q r =
+    read_accepts s c (ReportsPlan s c p) p text q (λ b t. ap (λ (x : Progress). x.own) t.5) r
+one_accepts s (Expand c) p text q r =
+    read_accepts s c (ReportsBlocks s c p) p text q (λ b t. blocks_own s c p b text q t) r
+one_accepts s Settle p text q r = ap (λ (x : Progress). x.own) r.1
+
+-- what the commands of two lists accept, one after the other
+pub accepts-append : (f : Top) (name : List ℕ) (cs ds : List Command) (us vs ws : List Upload)
+    → AcceptsEach f name cs us vs → AcceptsEach f name ds vs ws → AcceptsEach f name (cs ++ ds) us ws
+accepts-append f name [] ds us vs ws h k = subst (λ (xs : List Upload). AcceptsEach f name ds xs ws) h k
+accepts-append f name (c ∷ cs) ds us vs ws h k = (h.0, h.1, accepts-append f name cs ds h.0 vs ws h.2 k)
+
+-- nothing is accepted where the reply needs no table
+local_accepts : (f : Top) (name : List ℕ) (us : List Upload) (c : Command) (text : List ℕ)
+    → IsLocalReply f (held us) c text → Accepts f name c us us
+local_accepts f name us (Offered c body) text h = (Err h.0, h.1, refl)
+local_accepts f name us (UploadFile body) text h = (Err h.0, h.1, refl)
+local_accepts f name us (Bound c) text h = refl
+local_accepts f name us (Plan c) text h = refl
+local_accepts f name us (Expand c) text h = refl
+local_accepts f name us Settle text h = absurd h
+
+local_accept_each : (f : Top) (name : List ℕ) (us : List Upload) (cs : List Command) (text : List ℕ)
+    → AreLocalReplies f (held us) cs text → AcceptsEach f name cs us us
+local_accept_each f name us [] text h = refl
+local_accept_each f name us (c ∷ cs) text h =
+    (us, local_accepts f name us c h.0 h.2, local_accept_each f name us cs h.1 h.3)
+
 pub served_start : (service : Service) (K : Progress → Type 0) (section : SectionValue) → K no_progress
     → IsServed service K section (new_session service.frame section)
 served_start service K section k = record {
-  section_is =
-      refl;
+  section_is = refl;
   frame_is = refl;
+  passed = [];
+  commands = refl;
+  accepts = refl;
   progress = no_progress;
   own = refl;
   written = refl;
@@ -68,6 +123,15 @@ pub served_on : (service : Service) (K : Progress → Type 0) (section : Section
 served_on service K section s t h g = record {
   section_is = g.section ∙ h.section_is;
   frame_is = g.frame ∙ h.frame_is;
+  passed = h.passed ++ g.passed;
+  commands =
+      h.commands ∙ ap (λ (cs : List Command). h.passed ++ cs) g.left ∙ sym (append_assoc h.passed g.passed t.left);
+  accepts =
+      let local : AreLocalReplies service.frame (held s.own) g.passed g.text =
+      subst (λ (f : Top). AreLocalReplies f (held s.own) g.passed g.text) h.frame_is g.local in
+      subst (λ (us : List Upload). AcceptsEach service.frame service.client (h.passed ++ g.passed) [] us) (sym g.own)
+      (accepts-append service.frame service.client h.passed g.passed [] s.own s.own h.accepts
+      (local_accept_each service.frame service.client s.own g.passed g.text local));
   progress = h.progress;
   own = h.own ∙ sym g.own;
   written = h.written ∙ sym g.written;
@@ -104,6 +168,18 @@ served_reply service K L section s t h g =
     let r = g.reply h.progress h.own h.written h.knows in record {
       section_is = g.section_is ∙ h.section_is;
       frame_is = g.frame_is ∙ h.frame_is;
+      passed = h.passed ++ g.first ∷ [];
+      commands =
+          h.commands
+          ∙ ap (λ (cs : List Command). h.passed ++ cs)
+          (g.left ∙ ap (λ (cs : List Command). g.first ∷ cs) (sym g.left_now))
+          ∙ sym (append_assoc h.passed (g.first ∷ []) t.left);
+      accepts =
+          let one : Accepts service.frame service.client g.first s.own t.own =
+          subst (λ (x : List Upload × List Upload). Accepts service.frame service.client g.first x.0 x.1)
+          (λ i. (h.own i, r.2 i)) (one_accepts service g.first h.progress g.text r.0 r.1) in
+          accepts-append service.frame service.client h.passed (g.first ∷ []) [] s.own t.own h.accepts
+          (t.own, one, refl);
       progress = r.0;
       own = r.2;
       written = r.3;
@@ -120,42 +196,6 @@ served_reply service K L section s t h g =
           (h.completes (g.text ++ rest) q whole);
     }
 
--- the replies accept what their commands are to
-upload_accepts : (s : Service) (c : Command) (p : Progress) (text : List ℕ) (q : Progress)
-    → IsUploadReply s c p text q → AcceptsUpload s.frame s.client c p.own q.own
-upload_accepts s c p text q h = (h.0, h.1, ap (λ (x : Progress). x.own) h.3 ∙ own_after s.client p h.0)
-  where
-    own_after : (name : List ℕ) (p : Progress) (o : Outcome) → (and_outcome name p o).own ≡ uploads_after name p.own o
-    own_after name p (Ok d) = refl
-    own_after name p (Err reason) = refl
-
-read_accepts : (s : Service) (c : Triple) (R : ℕ → List ℕ → Progress → Type 0) (p : Progress) (text : List ℕ)
-    (q : Progress) → ((b : ℕ) → R b text q → q.own ≡ p.own) → IsReadReply s c R p text q → q.own ≡ p.own
-read_accepts s c R p text q own (inl out) = ap (λ (x : Progress). x.own) out.2
-read_accepts s c R p text q own (inr h) = own h.1 h.3
-
-blocks_own : (s : Service) (c : Triple) (p : Progress) (b : ℕ) (text : List ℕ) (q : Progress)
-    → ReportsBlocks s c p b text q → q.own ≡ p.own
-blocks_own s c p b text q (inl h) = ap (λ (x : Progress). x.own) h.4
-blocks_own s c p b text q (inr h) = ap (λ (x : Progress). x.own) h.2
-
-one_accepts : (s : Service) (c : Command) (p : Progress) (text : List ℕ) (q : Progress) → IsReply s c p text q
-    → Accepts s.frame s.client c p.own q.own
-one_accepts s (Offered c body) p text q r = upload_accepts s (Offered c body) p text q r
-one_accepts s (UploadFile body) p text q r = upload_accepts s (UploadFile body) p text q r
-one_accepts s (Bound c) p text q r =
-    read_accepts s c (ReportsBound c p) p text q (λ b t. ap (λ (x : Progress). x.own) t.1) r
-one_accepts s (Plan c) p text q r =
-    read_accepts s c (ReportsPlan s c p) p text q (λ b t. ap (λ (x : Progress). x.own) t.5) r
-one_accepts s (Expand c) p text q r =
-    read_accepts s c (ReportsBlocks s c p) p text q (λ b t. blocks_own s c p b text q t) r
-one_accepts s Settle p text q r = ap (λ (x : Progress). x.own) r.1
-
-pub replies_accept : (s : Service) (cs : List Command) (p : Progress) (text : List ℕ) (q : Progress)
-    → AreReplies s cs p text q → AcceptsEach s.frame s.client cs p.own q.own
-replies_accept s [] p text q r = ap (λ (x : Progress). x.own) r.1
-replies_accept s (c ∷ cs) p text q r = (r.2.own, one_accepts s c p r.0 r.2 r.3, replies_accept s cs r.2 r.1 q r.4)
-
 pub served_done : (service : Service) (K : Progress → Type 0) (section : SectionValue) (s : SessionValue)
     → IsServed service K section s → s.left ≡ []
     → (end : Progress) × AreReplies service section.commands no_progress s.replies end
@@ -165,11 +205,12 @@ served_done service K section s h none =
     subst (λ (cs : List Command). AreReplies service cs h.progress [] h.progress) (sym none) (refl, refl) in
     let all : AreReplies service section.commands no_progress s.replies h.progress
     = subst (λ (text : List ℕ). AreReplies service section.commands no_progress text h.progress)
-    (append-nil s.replies) (h.completes [] h.progress last) in (
+    (append-nil s.replies) (h.completes [] h.progress last) in
+    let passed : h.passed ≡ section.commands =
+    sym (append-nil h.passed) ∙ ap (λ (cs : List Command). h.passed ++ cs) (sym none) ∙ sym h.commands in (
       h.progress,
       all,
-      subst (λ (us : List Upload). AcceptsEach service.frame service.client section.commands [] us)
-          h.own (replies_accept service section.commands no_progress s.replies h.progress all),
+      subst (λ (cs : List Command). AcceptsEach service.frame service.client cs [] s.own) passed h.accepts,
     )
 
 -- the reply to each ask

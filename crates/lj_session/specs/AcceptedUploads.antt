@@ -1,5 +1,6 @@
 -- The uploads that are accepted of a section, and of a script: the commands and the frame alone fix them.
 use Rattle.std.specs.Prelude.{◌≡◌, ℕ, List, [], ◌∷◌, ◌++◌, Ok, Err}
+use Rattle.std.specs.List.{Contains}
 use Rattle.lj_base.specs.Frames.{Top}
 use Rattle.lj_cover.specs.Rules.{Upload}
 use Rattle.lj_script.specs.Values.{SectionValue}
@@ -38,3 +39,17 @@ AreAcceptedOfAll f [] us = us ≡ []
 AreAcceptedOfAll f (section ∷ sections) us =
     (own : List Upload) × (rest : List Upload) × AreAcceptedOf f section own
     × AreAcceptedOfAll f sections rest × (us ≡ own ++ rest)
+
+-- the upload is accepted of the section after some of its commands
+pub record IsAcceptedOf (f : Top) (section : SectionValue) (u : Upload) : Type 0 where
+  pub passed : List Command
+  pub others : List Command
+  pub commands : section.commands ≡ passed ++ others
+  pub uploads : List Upload
+  pub accepts : AcceptsEach f section.name passed [] uploads
+  pub one : Contains uploads u
+
+-- the upload is accepted of one of the sections: as `AreAcceptedOfAll` says it of the list, also before all commands
+-- are gone through
+abbrev pub IsAcceptedIn : Top → List SectionValue → Upload → Type 0
+IsAcceptedIn f sections u = (section : SectionValue) × Contains sections section × IsAcceptedOf f section u

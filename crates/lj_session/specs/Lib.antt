@@ -3,6 +3,8 @@ pub mod ReplyTexts
 pub mod Replies
 pub mod AcceptedUploads
 pub mod BuildReplies
+pub mod ServeReplies
+pub mod Offered
 pub mod Sessions
 pub mod Handling
 pub mod Inside

@@ -1,5 +1,6 @@
 -- Sessions as contracts see them: a section whose commands are gone through one by one.
-use Rattle.std.specs.Prelude.{◌≡◌, ◌⊎◌, ℕ, ◌+◌, nat_lt, if◌then◌else◌, List, [], ◌∷◌, ◌++◌, Ok, Err, codes, drop}
+use Rattle.std.specs.Prelude.{◌≡◌, ◌⊎◌, ℕ, ◌+◌, ◌<◌, nat_lt, if◌then◌else◌, List, [], ◌∷◌, ◌++◌, Ok, Err, codes, drop}
+use Rattle.std.specs.Prelude.{length}
 use Rattle.lj_base.specs.Cells.{Triple}
 use Rattle.lj_base.specs.Frames.{InFrame, Top}
 use Rattle.lj_cover.specs.Derivations.{expand, root_cell, tree_cost}
@@ -157,3 +158,11 @@ with_plan_for s [] p = s
 with_plan_for s (command.Plan c ∷ others) p = with_plan s p
 with_plan_for s (command.Expand c ∷ others) p = with_expansion s p
 with_plan_for s (other ∷ others) p = s
+
+-- the first command left of the session has got its reply: no ask waits, and one command less is left
+pub record Passes (s t : SessionValue) : Type 0 where
+  pub frame : t.frame ≡ s.frame
+  pub section : t.section ≡ s.section
+  pub free : t.ask ≡ Done
+  pub left : t.left ≡ drop 1 s.left
+  pub less : length t.left < length s.left

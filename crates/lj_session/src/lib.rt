@@ -16,7 +16,9 @@ mod terms;
 
 pub use asks::Ask;
 pub use ends::{Replies, SessionEnd, Uploads};
-pub use laws::{ask_law, building_law, one_outcome_law};
+pub use laws::{
+    accepted_law, ask_law, building_law, limits_law, one_outcome_law, passing_law, serving_law,
+};
 pub use limits::MAX_WRITTEN;
 pub use reasons::Reason;
 pub use sessions::Session;

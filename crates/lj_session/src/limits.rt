@@ -1,2 +1,2 @@
 /// The most blocks that all expand replies of one client have.
-pub const MAX_WRITTEN: u64 = 1_000_000;
+pub const MAX_WRITTEN: u64 = lj_expand::MAX_EXPANDED;
