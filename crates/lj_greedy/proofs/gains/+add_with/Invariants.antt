@@ -1,0 +1,19 @@
+use Rattle.std.proofs.Common.{◌≡◌, ℕ, ◌+◌, ◌<◌, ◌++◌, drop, get_or, length}
+use Rattle.lj_base.specs.Blocks.{Ascends}
+use Rattle.lj_greedy.specs.Choices.{with_point}
+use Rattle.lj_greedy.specs.Gains.{completed, is_zero_at, rows_with}
+use Rattle.lj_greedy.proofs.gains.+add_with.Given as goal
+
+abbrev pub decreases-add_with : goal.decreases-add_with
+decreases-add_with l = l.left
+
+abbrev pub invariant-loop-i : goal.invariant-loop-i
+invariant-loop-i l = record {
+  long : length l.gains ≡ length l.initial.gains;
+  ascends : Ascends 0 l.counts.cell.v (l.row ++ with_point l.q (drop l.i l.block));
+  left : (p : ℕ) → p < length l.initial.gains →
+      get_or l.gains p 0
+      + completed (is_zero_at l.counts.counts) p (rows_with l.row l.q l.left (drop l.i l.block))
+      ≡ get_or l.initial.gains p 0
+      + completed (is_zero_at l.counts.counts) p (rows_with l.row l.q l.left (drop l.from l.block));
+}

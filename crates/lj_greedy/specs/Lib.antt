@@ -1,0 +1,5 @@
+pub mod Reduced
+pub mod Choices
+pub mod Greedy
+pub mod Gains
+pub mod Failures
