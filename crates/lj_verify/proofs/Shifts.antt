@@ -1,7 +1,7 @@
 -- Marks in words that are shifted, and in a part of the words.
 use Rattle.std.proofs.Common.{◌≡◌, ◌⊎◌, inl, inr, ⊎_elim, ℕ, ◌+◌, ◌-◌, ◌*◌, ◌/◌, ◌%◌, ◌^◌, ◌<◌, ◌≤◌, List, ◌++◌, length}
 use Rattle.std.proofs.Common.{take, drop, get_or, bit_or, bit_and, min, max, sym, ap, ◌∙◌, subst, arith, length-append}
-use Rattle.std.proofs.Common.{length-drop}
+use Rattle.std.proofs.Common.{ap₂, length-drop, refl}
 use Rattle.std.proofs.lemmas.Bool.{cases_eq, cases_lt}
 use Rattle.std.proofs.lemmas.List.{length-take-le, get_or-take, get_or_append_left, get_or-append_right, get_or-drop}
 use Rattle.std.proofs.Math.Nat.{pow-le-pow_right}
@@ -105,6 +105,37 @@ marks_part start a k words ys P room h =
           ))
           (cases_lt (r / 64 - start) (a + k)))
           (cases_lt (r / 64 - start) a);
+    }
+
+-- words of which the ones in front and the ones after them were marked
+pub marks_halves : (start : ℕ) (xs ys xs' ys' : List ℕ) (P : ℕ → Type 0) → Marks start xs xs' P
+    → Marks (start + length xs) ys ys' P → Marks start (xs ++ ys) (xs' ++ ys') P
+marks_halves start xs ys xs' ys' P one two =
+    let n = length xs in
+    let long = one.count in
+    let whole = length-append xs ys in
+    record {
+      count = length-append xs' ys' ∙ ap₂ (λ a b. a + b) long two.count ∙ sym whole;
+      each = λ r low high.
+          let bit = λ (word : ℕ). bit_at word (r % 64) ≡ 1 in
+          let i = r / 64 - start in
+          ⊎_elim
+          (λ front.
+          let was = get_or_append_left xs ys 0 i front in
+          let now = get_or_append_left xs' ys' 0 i (omega (arith, front, long)) in
+          let each = one.each r low (omega arith) in (
+            λ m. ⊎_elim (λ old. inl (subst bit (sym was) old)) (λ p. inr p) (each.0 (subst bit now m)),
+            λ h. subst bit (sym now) (each.1 (⊎_elim (λ old. inl (subst bit was old)) (λ p. inr p) h)),
+          ))
+          (λ back.
+          let place : i - n ≡ r / 64 - (start + n) = omega arith in
+          let was = get_or-append_right xs ys n i 0 refl back ∙ ap (λ k. get_or ys k 0) place in
+          let now = get_or-append_right xs' ys' n i 0 long back ∙ ap (λ k. get_or ys' k 0) place in
+          let each = two.each r (omega arith) (omega (arith, high, whole)) in (
+            λ m. ⊎_elim (λ old. inl (subst bit (sym was) old)) (λ p. inr p) (each.0 (subst bit now m)),
+            λ h. subst bit (sym now) (each.1 (⊎_elim (λ old. inl (subst bit was old)) (λ p. inr p) h)),
+          ))
+          (cases_lt i n);
     }
 
 -- the words between the first and the last of a string that is shifted

@@ -8,6 +8,7 @@ mod limits;
 mod pairs;
 mod pieces;
 mod plain;
+mod ranges;
 mod refusals;
 mod sizes;
 mod strings;

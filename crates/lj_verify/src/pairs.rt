@@ -47,7 +47,7 @@ pub(crate) fn mark_block(words: &mut [u64], start: u64, block: &Block, t: u64)
 }
 
 // Marks the rank of each point of the block: the point itself.
-pub(crate) fn mark_points(words: &mut [u64], start: u64, block: &Block)
+fn mark_points(words: &mut [u64], start: u64, block: &Block)
     requires few_words { start + length words.old ≤ MAX_WORDS }
     ensures { Marks start words.old words.new (IsRankAmong block.now 1 0) }
 {

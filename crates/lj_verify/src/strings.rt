@@ -7,7 +7,7 @@ ghost use Rattle.lj_verify.specs.Strings.{IsStringOf, words_for};
 use crate::bits::mark_prefix;
 use crate::laws::set_laws;
 use crate::limits::{MAX_WORDS, RANK_LIMIT};
-use crate::pairs::{mark_block, mark_points};
+use crate::pairs::mark_block;
 use lj_base::{Block, COST_LIMIT, binom};
 
 // All sets of s points below a point p have the ranks from 0 to binom(p, s) - 1. So the ranks of a block's sets of
@@ -93,8 +93,8 @@ pub(crate) fn needs(v: u64, size: u64) -> u64
     string_words(v, size) + needs(v, size - 1)
 }
 
-// Makes the string of a block's sets of `size` points in the first words, from that of one point less in the words
-// after them.
+// Makes the string of a block's sets of `size` points in the first words: those of one or two points by runs, others
+// from the string of one point less in the words after them.
 fn make_string(scratch: &mut [u64], block: &Block, v: u64, size: u64)
     requires few_points { v ≤ 99 }
     requires below { Ascends 0 v block.now }
@@ -108,8 +108,8 @@ fn make_string(scratch: &mut [u64], block: &Block, v: u64, size: u64)
 {
     let (string, others) = scratch.split_at_mut(string_words(v, size) as usize);
     string.fill(0);
-    if size == 1 {
-        mark_points(string, 0, block);
+    if size <= 2 {
+        mark_block(string, 0, block, size);
     } else {
         make_string(others, block, v, size - 1);
         let lower = &others[..string_words(v, size - 1) as usize];
@@ -169,6 +169,7 @@ fn mark_prefixes(
 )
     requires some { 1 ≤ size }
     requires small { size < 8 }
+    requires enough { size < n }
     requires within { n ≤ length block.now }
     requires ascends { Ascends 0 99 block.now }
     requires few_words { start + length words.old ≤ MAX_WORDS }
@@ -180,7 +181,7 @@ fn mark_prefixes(
     set_laws();
     let low = 64 * start;
     let high = low + 64 * words.len() as u64;
-    for i in 0..n {
+    for i in size..n {
         let point = block.at(i) as u64;
         let least = rest + binom(point, size + 1);
         if least < high && low < least + binom(point, size) {

@@ -5,6 +5,7 @@ ghost use Rattle.lj_verify.specs.Marks.{IsRankIn, Marks};
 use crate::bits::mark_prefix;
 use crate::limits::{MAX_WORDS, MAX_WORKERS};
 use crate::pieces::mark_pieces;
+use crate::ranges::mark_ranges;
 use lj_base::{Block, MAX_BLOCKS, MAX_SETS, Memory};
 use lj_bitmap::RankMap;
 use std::alloc::Global;
@@ -56,12 +57,12 @@ fn mark_words<R: Threads + Sync>(
     if workers > 1 && words.len() <= SHARED / workers as usize {
         return mark_shares(rt, alloc, words, blocks, t, size, workers);
     }
-    mark_ranges(rt, words, blocks, t, size, workers);
+    mark_ranges(rt, blocks, t, size, workers, 0, words);
     Ok(())
 }
 
-// Each worker marks its share of the blocks in a map of its own, and the maps are joined.
-fn mark_shares<R: Threads + Sync>(
+/// Each worker marks its share of the blocks in a map of its own, and the maps are joined.
+pub(crate) fn mark_shares<R: Threads + Sync>(
     rt: &R,
     alloc: Global,
     words: &mut [u64],
@@ -126,27 +127,4 @@ fn share_of(blocks: &[Block], i: usize, share: usize) -> &[Block]
     let from = blocks.len().min(i * share);
     let to = blocks.len().min(from + share);
     &blocks[from..to]
-}
-
-// Each worker marks a range of ranks of its own.
-fn mark_ranges<R: Threads + Sync>(
-    rt: &R,
-    words: &mut [u64],
-    blocks: &[Block],
-    t: u64,
-    size: u64,
-    workers: u64,
-)
-    requires small { t ≤ 8 }
-    requires few_words { length words.old ≤ MAX_WORDS }
-    requires some_workers { 1 ≤ workers }
-    ensures { Marks 0 words.old words.new (IsRankIn blocks.now t) }
-{
-    let len = words.len().div_ceil(workers as usize).max(1);
-    thread::for_each_chunk_mut(
-        rt,
-        words,
-        len,
-        &|start, range| { mark_pieces(range, start as u64, blocks, t, size) },
-    );
 }

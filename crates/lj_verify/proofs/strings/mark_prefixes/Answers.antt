@@ -11,7 +11,7 @@ use Rattle.lj_verify.proofs.strings.mark_prefixes.Goals.{else-least-high-via-the
 use Rattle.lj_verify.proofs.strings.mark_prefixes.Goals.{else-least-high-via-else-least-high}
 
 pub loop-i-init : goal.loop-i-init
-loop-i-init c = marks_few c.set_laws.ensures c.args.start c.args.words.now c.args.block.now 0
+loop-i-init c = marks_few c.set_laws.ensures c.args.start c.args.words.now c.args.block.now c.args.size
     (c.args.size + 1) c.args.rest c.requires.ascends (omega arith) (omega arith)
 
 pub binom-requires-clause-few_points : goal.binom-requires-clause-few_points
