@@ -57,7 +57,7 @@ pub record IsCut (c : Triple) (children : List ℕ) (held : List (Option Coverin
 
 module _ (sizes_law : SizesLaw) where
   -- the size of a block's cut, where it is larger than k
-  has_size : (v m : ℕ) (c : Triple) (bs : List (List ℕ)) (b : List ℕ) → AreBlocks v m bs → Contains bs b
+  pub has_size : (v m : ℕ) (c : Triple) (bs : List (List ℕ)) (b : List ℕ) → AreBlocks v m bs → Contains bs b
       → c.k < length (cut c.v b) → Has (cut_sizes c.k c.v bs) (length (cut c.v b))
   has_size v m c bs b blocks there more =
       (sizes_law v m c.k c.v (length (cut c.v b)) bs blocks).1

@@ -1,11 +1,14 @@
-pub mod Arms
 pub mod Children
 pub mod CutLists
+pub mod CutRows
+pub mod Fills
+pub mod JoinRows
 pub mod Joins
 pub mod Noting
 pub mod Parts
 pub mod Placed
 pub mod Ranked
 pub mod Rows
+pub mod Runs
 pub mod Spots
 pub mod Texts

@@ -2,8 +2,10 @@
 #![tactic(auto)]
 
 mod bases;
+mod batches;
 mod cuts;
 mod expansion;
+mod filling;
 mod held;
 mod lines;
 mod nodes;
@@ -13,7 +15,7 @@ mod streaming;
 mod uses;
 mod write;
 
+pub use batches::block_at;
 pub use expansion::{MAX_EXPANDED, expand_all};
-pub use positions::block_at;
 pub use streaming::stream;
 pub use write::write_blocks;

@@ -1,8 +1,38 @@
-ghost use Rattle.std.specs.Prelude.{◌≡◌, ◌+◌, ◌<◌, ◌≤◌, [], ◌∷◌, ◌++◌, decimal, length};
+ghost use Rattle.std.specs.Prelude.{◌≡◌, ◌+◌, ◌<◌, ◌≤◌, suc, [], ◌∷◌, ◌++◌, decimal, length, slice_index, take};
 ghost use Rattle.lj_blockfile.specs.BlockLines.{block_line};
+ghost use Rattle.lj_expand.specs.Lines.{AreTexts, IsText};
 
+use itoa::Buffer;
 use lj_base::Block;
 use std::marker::Model;
+
+/// The texts of all points, from 1 to 99: two bytes for each, of which the first alone counts up to 9.
+pub(crate) type PointTexts = [[u8; 2]; 99];
+
+/// Makes the texts of all points.
+pub(crate) fn point_texts() -> PointTexts
+    ensures { AreTexts result }
+{
+    let mut texts = [[0; 2]; 99];
+    for point in 0..99u8 {
+        texts[point as usize] = text_of(point + 1);
+    }
+    texts
+}
+
+// The text of a number of one digit or two.
+fn text_of(n: u8) -> [u8; 2]
+    requires { n < 100 }
+    ensures { IsText n result }
+{
+    let mut buffer = Buffer::new();
+    let digits = buffer.format(n).as_bytes();
+    if digits.len() > 1 {
+        [digits[0], digits[1]]
+    } else {
+        [digits[0], 0]
+    }
+}
 
 /// The line of a block, in a buffer of its own: 25 points of two digits, and a byte after each.
 #[derive(Drop)]
@@ -23,7 +53,8 @@ impl Model for Line {
 
 impl Line {
     /// The block's line: its points from 1, ascending, with one space between each two, and LF.
-    pub(crate) fn of(block: &Block) -> Line
+    pub(crate) fn of(block: &Block, texts: &PointTexts) -> Line
+        requires { AreTexts texts.now }
         ensures { result ≡ block_line block.now ++ 10 ∷ [] }
     {
         let mut line = Line::empty();
@@ -32,7 +63,7 @@ impl Line {
                 line.push(32);
             }
             let point = block.at(i);
-            line.push_number(point + 1);
+            line.push_point(point, texts);
         }
         line.push(10);
         line
@@ -62,16 +93,17 @@ impl Line {
         self.len += 1;
     }
 
-    fn push_number(&mut self, n: u8)
-        requires small { n < 100 }
+    // Adds the text of a point, which is looked up.
+    fn push_point(&mut self, point: u8, texts: &PointTexts)
+        requires texts { AreTexts texts.now }
+        requires in_range { point < 99 }
         requires room { length self.old + 2 ≤ 75 }
-        ensures { self.new ≡ self.old ++ decimal n }
+        ensures { self.new ≡ self.old ++ decimal (point + 1) }
     {
-        if n < 10 {
-            self.push(48 + n);
-        } else {
-            self.push(48 + n / 10);
-            self.push(48 + n % 10);
+        let text = texts[point as usize];
+        self.push(text[0]);
+        if point >= 9 {
+            self.push(text[1]);
         }
     }
 }

@@ -3,10 +3,11 @@ ghost use Rattle.lj_base.specs.Streams.{Appends, Rose};
 ghost use Rattle.lj_blockfile.specs.BlockFiles.{blocks_text};
 ghost use Rattle.lj_cover.specs.Derivations.{expand, root_cell};
 ghost use Rattle.lj_deriv.specs.Nodes.{plan_tree};
+ghost use Rattle.lj_expand.specs.Lines.{AreTexts};
 
-use crate::lines::Line;
-use crate::positions::block_at;
-use lj_base::Sink;
+use crate::batches::{fill_batch, no_blocks};
+use crate::lines::{Line, PointTexts, point_texts};
+use lj_base::{Block, Sink};
 use lj_deriv::Plan;
 use lj_text::{WriteFault, write_all};
 
@@ -24,10 +25,34 @@ pub fn stream<K: Sink>(plan: &Plan, sink: &mut K) -> Result<(), WriteFault>
         × Appends (K.written sink.old) (K.written sink.new)
         (take n (blocks_text (expand (plan_tree plan.now))))) }
 {
+    let texts = point_texts();
     let cost = plan.cost();
-    for i in 0..cost {
-        let block = block_at(plan, i);
-        let line = Line::of(&block);
+    let mut batch = no_blocks();
+    let mut done = 0;
+    while done < cost {
+        let count = fill_batch(plan, done, &mut batch);
+        stream_lines(sink, &batch[..count], &texts)?;
+        done += count as u64;
+    }
+    Ok(())
+}
+
+// Writes a line for each of the blocks, one by one.
+fn stream_lines<K: Sink>(
+    sink: &mut K,
+    blocks: &[Block],
+    texts: &PointTexts,
+) -> Result<(), WriteFault>
+    requires { AreTexts texts.now }
+    ensures written { OnOk result (Appends (K.written sink.old) (K.written sink.new) (blocks_text blocks.now)) }
+    ensures quiet { OnOk result (K.faults sink.new ≡ K.faults sink.old) }
+    ensures fault { IfErr result (λ f. Rose (K.faults sink.old) (K.faults sink.new)
+        × (f.count ≡ K.faults sink.new)) }
+    ensures front { OnErr result ((n : ℕ) × (n < length (blocks_text blocks.now))
+        × Appends (K.written sink.old) (K.written sink.new) (take n (blocks_text blocks.now))) }
+{
+    for block in blocks {
+        let line = Line::of(block, texts);
         write_all(sink, line.as_slice())?;
     }
     Ok(())

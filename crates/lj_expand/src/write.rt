@@ -3,15 +3,19 @@ ghost use Rattle.lj_base.specs.Blocks.{Covers};
 ghost use Rattle.lj_blockfile.specs.BlockFiles.{blocks_text};
 ghost use Rattle.lj_cover.specs.Derivations.{expand, root_cell, tree_cost};
 ghost use Rattle.lj_deriv.specs.Nodes.{plan_tree};
+ghost use Rattle.lj_expand.specs.Lines.{AreTexts};
+ghost use Rattle.lj_text.specs.Fields.{Extends};
 
-use crate::expansion::{MAX_EXPANDED, expand_all};
-use lj_base::Memory;
-use lj_blockfile::put_blocks;
+use crate::batches::{fill_batch, no_blocks};
+use crate::expansion::MAX_EXPANDED;
+use crate::lines::{Line, PointTexts, point_texts};
+use lj_base::{Block, Memory};
 use lj_deriv::Plan;
+use lj_text::{cut_back, put};
 use std::alloc::Global;
 
-/// Appends a line for each block of the plan, in the order of its rules.
-pub fn write_blocks(alloc: Global, plan: &Plan, out: &mut Vec<u8>) -> Result<(), Memory>
+/// Appends a line for each block of the plan, in the order of its rules. It takes memory for the text alone.
+pub fn write_blocks(_alloc: Global, plan: &Plan, out: &mut Vec<u8>) -> Result<(), Memory>
     requires few { tree_cost (plan_tree plan.now) ≤ MAX_EXPANDED }
     requires some { 1 ≤ (root_cell (plan_tree plan.now)).k }
     ensures ok { OnOk result (out.new.items ≡ out.old.items ++ blocks_text (expand (plan_tree plan.now))) }
@@ -20,6 +24,37 @@ pub fn write_blocks(alloc: Global, plan: &Plan, out: &mut Vec<u8>) -> Result<(),
     ensures count { length (expand (plan_tree plan.now)) ≡ tree_cost (plan_tree plan.now) }
 {
     let _cost = plan.cost();
-    let design = expand_all(alloc, plan)?;
-    put_blocks(design.blocks(), out)
+    let start = out.len();
+    let result = append_plan(plan, out);
+    cut_back(out, start, result)
+}
+
+// Appends all lines, batch after batch; where memory ran out a part of them may have been appended.
+fn append_plan(plan: &Plan, out: &mut Vec<u8>) -> Result<(), Memory>
+    ensures ok { OnOk result (out.new.items ≡ out.old.items ++ blocks_text (expand (plan_tree plan.now))) }
+    ensures err { OnErr result (Extends out.old.items out.new.items) }
+{
+    let texts = point_texts();
+    let cost = plan.cost();
+    let mut batch = no_blocks();
+    let mut done = 0;
+    while done < cost {
+        let count = fill_batch(plan, done, &mut batch);
+        append_lines(&batch[..count], &texts, out)?;
+        done += count as u64;
+    }
+    Ok(())
+}
+
+// Appends a line for each block; where memory ran out a part of them may have been appended.
+fn append_lines(blocks: &[Block], texts: &PointTexts, out: &mut Vec<u8>) -> Result<(), Memory>
+    requires { AreTexts texts.now }
+    ensures ok { OnOk result (out.new.items ≡ out.old.items ++ blocks_text blocks.now) }
+    ensures err { OnErr result (Extends out.old.items out.new.items) }
+{
+    for block in blocks {
+        let line = Line::of(block, texts);
+        put(out, line.as_slice())?;
+    }
+    Ok(())
 }

@@ -1,39 +1,40 @@
-use Rattle.std.proofs.Common.{◌<◌, ◌++◌, ◌∷◌, [], ◌∙◌, length, subst, sym, take}
+use Rattle.std.proofs.Common.{◌≡◌, ◌<◌, ◌≤◌, ◌++◌, ◌+◌, ◌-◌, ◌∙◌, ap, arith, drop, length, min, subst, sym, take}
 use Rattle.std.proofs.KnownBytes.{Appends-trans}
 use Rattle.lj_base.specs.Streams.{Appends}
 use Rattle.lj_blockfile.specs.BlockFiles.{blocks_text}
-use Rattle.lj_blockfile.specs.BlockLines.{block_line}
 use Rattle.lj_cover.specs.Derivations.{expand}
 use Rattle.lj_deriv.specs.Nodes.{plan_tree}
 use Rattle.lj_expand.proofs.Texts.{OnErr-always, text-front, text-more}
 use Rattle.lj_expand.proofs.streaming.stream.Goals as goal
 
-pub loop-i-preserved : goal.loop-i-preserved
-loop-i-preserved g c =
+pub loop-done-preserved : goal.loop-done-preserved
+loop-done-preserved g c =
     let bs = expand (plan_tree c.args.plan.now) in
-    let piece = subst (Appends _ _) (c.as_slice.ensures ∙ c.of-line.ensures) c.in_ok-write_all.ensures.written in
+    let done = c.loop-done.done in
+    let count = c.fill_batch-count.result in
     record {
+      room = omega (arith, c.loop-done.invariant.room, c.fill_batch-count.auto.out);
+      upto = omega (arith, c.fill_batch-count.ensures.count, c.cost-cost.ensures.cost);
       written =
-          subst (Appends _ _) (sym (text-more bs c.loop-i.i c.block_at-block.result c.block_at-block.ensures.block))
-          (Appends-trans _ _ _ _ _ c.loop-i.invariant.written piece);
-      quiet = c.in_ok-write_all.ensures.quiet ∙ c.loop-i.invariant.quiet;
+          subst (Appends _ _) (sym (text-more bs _ done count c.fill_batch-count.ensures.blocks))
+          (Appends-trans _ _ _ _ _ c.loop-done.invariant.written c.in_ok-stream_lines.ensures.written);
+      quiet = c.in_ok-stream_lines.ensures.quiet ∙ c.loop-done.invariant.quiet;
     }
 
-pub returns-in_err-write_all-clause-front : goal.returns-in_err-write_all-clause-front
-returns-in_err-write_all-clause-front g c =
+pub returns-in_err-stream_lines-clause-front : goal.returns-in_err-stream_lines-clause-front
+returns-in_err-stream_lines-clause-front g c =
     let bs = expand (plan_tree c.args.plan.now) in
-    let line = c.as_slice.ensures ∙ c.of-line.ensures in
-    let (n, inside, piece) = c.in_err-write_all.ensures.front in
-    let whole = text-front bs c.loop-i.i n c.block_at-block.result c.block_at-block.ensures.block
-    (subst (λ t. n < length t) line inside) in
+    let done = c.loop-done.done in
+    let count = c.fill_batch-count.result in
+    let (n, inside, piece) = c.in_err-stream_lines.ensures.front in
+    let whole = text-front bs done (done + count) n _ (text-more bs _ done count c.fill_batch-count.ensures.blocks)
+    inside in
     let a = g.K.Sink.written c.args.sink.now in
-    let b = g.K.Sink.written c.loop-i.sink in
-    let d = g.K.Sink.written c.write_all.new.sink in
-    let part = subst (λ t. Appends b d (take n t)) line piece in
+    let b = g.K.Sink.written c.loop-done.sink in
+    let d = g.K.Sink.written c.stream_lines.new.sink in
     OnErr-always c.from_residual.result _ (
       whole.0,
       whole.1,
       subst (λ t. Appends a d t) (sym whole.2)
-          (Appends-trans a b d (blocks_text (take c.loop-i.i bs))
-          (take n (block_line c.block_at-block.result ++ 10 ∷ [])) c.loop-i.invariant.written part),
+          (Appends-trans a b d (blocks_text (take done bs)) _ c.loop-done.invariant.written piece),
     )

@@ -5,16 +5,8 @@ use Rattle.lj_expand.proofs.Texts.{line-first, line-next, short-more}
 use Rattle.lj_expand.proofs.lines.Line.of.Goals as goal
 use Rattle.lj_expand.proofs.lines.Line.of.Goals.{then-i-gt0, else-i-gt0}
 
-pub overflow_add-point : goal.overflow_add-point
-overflow_add-point c = omega (
-  arith,
-  c.at-point.ensures,
-  Ascends-get_or_below 0 99 c.args.block.now c.loop-i.i c.len-i-end.ensures.ascends
-      (omega arith),
-)
-
-pub push_number-requires-clause-small : goal.push_number-requires-clause-small
-push_number-requires-clause-small c = omega (
+pub push_point-requires-clause-in_range : goal.push_point-requires-clause-in_range
+push_point-requires-clause-in_range c = omega (
   arith,
   c.at-point.ensures,
   Ascends-get_or_below 0 99 c.args.block.now c.loop-i.i c.len-i-end.ensures.ascends
@@ -34,9 +26,9 @@ loop-i-preserved c =
           record {
             text =
                 line-next b _ _ i p (omega arith) c.at-point.ensures c.loop-i.invariant.text _
-                (omega arith) mid c.push_number.ensures;
+                (omega arith) mid c.push_point.ensures;
             first = λ e. absurd (omega arith);
-            short = λ some. short-more _ _ i p small c.push_number.ensures
+            short = λ some. short-more _ _ i p small c.push_point.ensures
                 (omega (arith, ap length mid, length_push c.loop-i.line 32, c.loop-i.invariant.short (omega arith)));
           }
       | else-i-gt0 w ↦
@@ -44,9 +36,9 @@ loop-i-preserved c =
           record {
             text =
                 line-first b _ _ i p (omega arith) c.at-point.ensures
-                (w.line-is ∙ c.loop-i.invariant.text) start c.push_number.ensures;
+                (w.line-is ∙ c.loop-i.invariant.text) start c.push_point.ensures;
             first = λ e. absurd (omega arith);
-            short = λ some. short-more _ _ i p small c.push_number.ensures
+            short = λ some. short-more _ _ i p small c.push_point.ensures
                 (omega (arith, ap length w.line-is, c.loop-i.invariant.first start));
           }
     ]

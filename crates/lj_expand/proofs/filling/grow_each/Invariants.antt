@@ -1,0 +1,7 @@
+use Rattle.std.proofs.Common.{◌≡◌, ◌++◌, drop, map, take}
+use Rattle.lj_cover.specs.Operations.{fill}
+use Rattle.lj_expand.proofs.filling.grow_each.Given as goal
+
+abbrev pub invariant-loop-block : goal.invariant-loop-block
+invariant-loop-block l =
+    l.out ≡ map (fill l.k) (take l.block-index l.fn.out) ++ drop l.block-index l.fn.out
