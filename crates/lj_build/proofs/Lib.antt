@@ -1,2 +1,5 @@
 pub mod Giving
+pub mod Permuted
+pub mod Reporting
 pub mod Sections
+pub mod Taking

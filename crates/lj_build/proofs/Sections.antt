@@ -10,13 +10,13 @@ use Rattle.lj_table.specs.Tables.{Contents}
 use Rattle.lj_build.specs.Building.{AreBuiltSoFar, IsSectionBuilt, IsWholeBuilt, Rests}
 use Rattle.lj_build.specs.Runs.{AreBuilt, uploads_of}
 
-uploads_of-append : (ds es : List SessionEnd) → uploads_of (ds ++ es) ≡ uploads_of ds ++ uploads_of es
+pub uploads_of-append : (ds es : List SessionEnd) → uploads_of (ds ++ es) ≡ uploads_of ds ++ uploads_of es
 uploads_of-append [] es = refl
 uploads_of-append (d ∷ ds) es =
     ap (λ (us : List Upload). d.accepted ++ us) (uploads_of-append ds es)
     ∙ sym (append_assoc d.accepted (uploads_of ds) (uploads_of es))
 
-uploads_of-push : (ds : List SessionEnd) (e : SessionEnd) → uploads_of (ds ++ e ∷ []) ≡ uploads_of ds ++ e.accepted
+pub uploads_of-push : (ds : List SessionEnd) (e : SessionEnd) → uploads_of (ds ++ e ∷ []) ≡ uploads_of ds ++ e.accepted
 uploads_of-push ds e =
     uploads_of-append ds (e ∷ []) ∙ ap (λ (us : List Upload). uploads_of ds ++ us) (append-nil e.accepted)
 
@@ -55,7 +55,7 @@ built_more f done ends now section e before t h one same =
           rw (sections, ends_are) whole;
     }
 
-accepted_all : (f : Top) (earlier : List Upload) (sections : List SectionValue) (ends : List SessionEnd)
+pub accepted_all : (f : Top) (earlier : List Upload) (sections : List SectionValue) (ends : List SessionEnd)
     → AreBuilt f earlier sections ends → AreAcceptedOfAll f sections (uploads_of ends)
 accepted_all f earlier [] [] h = refl
 accepted_all f earlier [] (e ∷ ends) h = absurd h

@@ -1,2 +1,4 @@
 pub mod Runs
 pub mod Building
+pub mod Matching
+pub mod Closing
