@@ -6,8 +6,8 @@ use Rattle.lj_cover.specs.Instances.{rows_at}
 use Rattle.lj_relax.specs.Steps.{Claims}
 use Rattle.lj_relax.specs.Tickets.{TicketLists, snapshot_of}
 use Rattle.lj_table.specs.Tables.{Contents, Fits, mark_at, state_of}
-use Rattle.lj_table.specs.declared.answers.Claimed.{Claimed}
-use Rattle.lj_table.specs.declared.answers.Claimed.TheVariants.{Cell, NoneOpen}
+use Rattle.lj_table.specs.declared.outcomes.Claimed.{Claimed}
+use Rattle.lj_table.specs.declared.outcomes.Claimed.TheVariants.{Cell, NoneOpen}
 
 -- the cell is the first in index order that has no mark
 pub record IsFirst (frame : Top) (marks : List Bool) (c : Triple) : Type 0 where

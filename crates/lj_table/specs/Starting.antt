@@ -1,12 +1,13 @@
 -- The bounds with which a table starts.
-use Rattle.std.specs.Prelude.{◌≡◌, ℕ, zero, suc, ◌+◌, ◌<◌, ◌≤◌, ◌==◌, ◌||◌, if◌then◌else◌, List, [], length}
+use Rattle.std.specs.Prelude.{◌≡◌, ℕ, zero, suc, ◌+◌, ◌<◌, ◌≤◌, ◌==◌, ◌||◌, true, false, if◌then◌else◌, List, []}
+use Rattle.std.specs.Prelude.{length}
 use Rattle.lj_base.specs.Bounds.{at_cell}
 use Rattle.lj_base.specs.Cells.{Triple}
 use Rattle.lj_base.specs.Colex.{choose}
 use Rattle.lj_base.specs.Frames.{InFrame, Top, index_of, size_of}
 use Rattle.lj_cover.specs.BlockLists.{ceil_div}
 use Rattle.lj_deriv.specs.Nodes.{Nodes}
-use Rattle.lj_table.specs.Tables.{IsIndexed, IsNodeOf}
+use Rattle.lj_table.specs.Tables.{Contents, IsIndexed, IsNodeOf, is_taken, state_of}
 
 -- for v points, sets of t points and blocks of k: one block, blocks in a row, every block, or as many as for blocks of
 -- one point less
@@ -19,6 +20,14 @@ first_at v t (suc k) =
 -- the bound with which a cell starts
 abbrev pub first_bound : Triple → ℕ
 first_bound c = first_at c.v c.t c.k
+
+-- a fresh table of the frame: no uploads, the first bounds, and each cell open and not taken
+pub record IsFresh (f : Top) (t : Contents) : Type 0 where
+  pub frame : t.arena.frame ≡ f
+  pub uploads : t.arena.uploads ≡ []
+  pub bounds : (c : Triple) → InFrame f c → (state_of t).bounds c ≡ first_bound c
+  pub pending : (c : Triple) → InFrame f c → (state_of t).pending c ≡ true
+  pub untaken : (c : Triple) → InFrame f c → is_taken t c ≡ false
 
 -- each cell of an index below n has a node, whose number is that index, and its first bound
 pub record IsBegun (f : Top) (n : ℕ) (a : Nodes) (bounds nodes : List ℕ) : Type 0 where

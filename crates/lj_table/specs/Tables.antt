@@ -1,5 +1,5 @@
 -- Tables of bounds as contracts see them, and what their type says.
-use Rattle.std.specs.Prelude.{◌≡◌, ℕ, ◌<◌, Bool, true, false, not, ◌&&◌, All, List, length, slice_index_or}
+use Rattle.std.specs.Prelude.{◌≡◌, ◌↔◌, ℕ, ◌<◌, Bool, true, false, not, ◌&&◌, All, IsTrue, List, length, slice_index_or}
 use Rattle.lj_base.specs.Bounds.{at_cell}
 use Rattle.lj_base.specs.Cells.{Triple}
 use Rattle.lj_base.specs.Frames.{InFrame, Top, index_of, size_of}
@@ -69,6 +69,13 @@ AreNodes frame a nodes bounds =
 pub record IsIndexed (frame : Top) : Type 0 where
   pub below : (c : Triple) → InFrame frame c → index_of frame c < size_of frame
   pub one : (c d : Triple) → InFrame frame c → InFrame frame d → index_of frame c ≡ index_of frame d → c ≡ d
+
+-- the test says whether P holds of the cell at the place
+pub record IsTestAt (frame : Top) (place : ℕ) (P : Triple → Type 0) (test : Bool) : Type 0 where
+  pub cell : Triple
+  pub inside : InFrame frame cell
+  pub at_place : index_of frame cell ≡ place
+  pub holds : IsTrue test ↔ P cell
 
 -- lists with an item for each cell of the frame
 pub record AreLists (t : Contents) : Type 0 where

@@ -7,7 +7,7 @@ ghost use Rattle.lj_base.specs.declared.Row.{Row as RowOf};
 ghost use Rattle.lj_cover.specs.Instances.{Reads, rows_at};
 ghost use Rattle.lj_deriv.specs.Nodes.{Nodes};
 ghost use Rattle.lj_table.specs.Lowering.{AgreesWith};
-ghost use Rattle.lj_table.specs.Tables.{Fits};
+ghost use Rattle.lj_table.specs.Tables.{Fits, IsTestAt};
 
 use crate::rows::{row_of, serves};
 use lj_base::{Cell, Frame, Row, index_law};
@@ -49,13 +49,21 @@ fn same_where_read(frame: Frame, c: Cell, old: &[u64], new: &[u64]) -> bool
 {
     index_law();
     for j in 0..frame.size() {
-        let d = frame.cell(j);
         let differ = old[j as usize] != new[j as usize];
-        if differ && reads(frame, c, d) {
+        if differ && reads_at(frame, c, j) {
             return false;
         }
     }
     true
+}
+
+// Whether the cell reads the one at the place.
+fn reads_at(frame: Frame, c: Cell, j: u64) -> bool
+    requires inside { InFrame frame c }
+    requires place { j < size_of frame }
+    ensures { IsTestAt frame j (Reads frame c) result }
+{
+    reads(frame, c, frame.cell(j))
 }
 
 // Whether the rows are those of the uploads at the cell.

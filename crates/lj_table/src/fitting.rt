@@ -1,27 +1,53 @@
 ghost use Rattle.std.specs.Prelude.{◌≡◌, ◌↔◌, ◌<◌, ◌≤◌, All, IsTrue, length};
 ghost use Rattle.lj_base.specs.Frames.{size_of};
 ghost use Rattle.lj_cover.specs.Instances.{IsRowOf, cut_counts};
-ghost use Rattle.lj_table.specs.Tables.{AreNodes, IsNodeOf};
+ghost use Rattle.lj_table.specs.Tables.{AreNodes, IsNodeOf, IsTestAt};
 
 use crate::rows::serves;
 use lj_base::{Cell, Frame, Row, index_law};
 use lj_deriv::Arena;
 use lj_upload::Accepted;
 
-/// Whether each cell's node is there, is of that cell and costs its number.
-pub fn are_nodes(frame: Frame, arena: &Arena, nodes: &[u64], bounds: &[u64]) -> bool
+/// Whether each cell's node is there, is of that cell and costs its number. Own nodes and bounds are known to be such,
+/// so that only those that differ from them are looked up.
+pub fn are_nodes(
+    frame: Frame,
+    arena: &Arena,
+    own_nodes: &[u64],
+    own_bounds: &[u64],
+    nodes: &[u64],
+    bounds: &[u64],
+) -> bool
+    requires own { AreNodes frame arena.now own_nodes.now own_bounds.now }
+    requires own_nodes { length own_nodes.now ≡ size_of frame }
+    requires own_bounds { length own_bounds.now ≡ size_of frame }
     requires nodes { length nodes.now ≡ size_of frame }
     requires bounds { length bounds.now ≡ size_of frame }
     ensures { IsTrue result ↔ AreNodes frame arena.now nodes.now bounds.now }
 {
     index_law();
     for j in 0..frame.size() {
-        let c = frame.cell(j);
-        if !is_node_of(arena, nodes[j as usize], c, bounds[j as usize]) {
+        let (node, bound) = (nodes[j as usize], bounds[j as usize]);
+        let known = are_same(node, own_nodes[j as usize], bound, own_bounds[j as usize]);
+        if !known && !is_node_at(frame, arena, j, node, bound) {
             return false;
         }
     }
     true
+}
+
+fn are_same(node: u64, own_node: u64, bound: u64, own_bound: u64) -> bool
+    ensures { IsTrue result ↔ ((node ≡ own_node) × (bound ≡ own_bound)) }
+{
+    node == own_node && bound == own_bound
+}
+
+// Whether the node is one of the cell at the place.
+fn is_node_at(frame: Frame, arena: &Arena, j: u64, node: u64, bound: u64) -> bool
+    requires { j < size_of frame }
+    ensures { IsTestAt frame j (λ c. IsNodeOf arena.now node c bound) result }
+{
+    is_node_of(arena, node, frame.cell(j), bound)
 }
 
 fn is_node_of(arena: &Arena, node: u64, c: Cell, bound: u64) -> bool

@@ -3,11 +3,11 @@
 #![tactic(auto)]
 
 mod agreement;
-mod answers;
 mod fitting;
 mod lowering;
 mod marks;
 mod offers;
+mod outcomes;
 mod readers;
 mod rows;
 mod rules;
@@ -15,5 +15,5 @@ mod starting;
 mod store;
 mod table;
 
-pub use answers::{Claimed, Outcome};
+pub use outcomes::{Claimed, Outcome};
 pub use table::Table;

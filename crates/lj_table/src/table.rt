@@ -17,13 +17,13 @@ ghost use Rattle.lj_relax.specs.Steps.{Accepts, Publishes};
 ghost use Rattle.lj_relax.specs.Tickets.{TicketLists, snapshot_of};
 ghost use Rattle.lj_table.specs.Claiming.{IsClaimed, IsFirst};
 ghost use Rattle.lj_table.specs.Settling.{IsTurn};
-ghost use Rattle.lj_table.specs.Starting.{first_bound};
+ghost use Rattle.lj_table.specs.Starting.{IsFresh};
 ghost use Rattle.lj_table.specs.Tables.{AreLeast, Fits, IsAtRest, IsNodeOf, IsTable, KeepsNodes, is_taken, state_of};
 
 use crate::agreement::agrees;
-use crate::answers::{Claimed, Outcome};
 use crate::fitting::{are_nodes, are_rows};
 use crate::marks::{first_unmarked, give_back, next_cell};
+use crate::outcomes::{Claimed, Outcome};
 use crate::rows::{present_rows, push_rows};
 use crate::starting::begin;
 use crate::store::Store;
@@ -59,11 +59,7 @@ impl Table {
     /// with one block, else one with `t = 1` with blocks in a row, else one with `t = k` with all blocks, and else with
     /// the covering of the cell of one point less in each block. It takes all memory that the marks need.
     pub fn start(alloc: Global, frame: Frame) -> Result<Table, Memory>
-        ensures frame { IfOk result (λ t. t.arena.frame ≡ frame) }
-        ensures uploads { IfOk result (λ t. t.arena.uploads ≡ []) }
-        ensures bounds { IfOk result (λ t. (c : Triple) → InFrame frame c → (state_of t).bounds c ≡ first_bound c) }
-        ensures pending { IfOk result (λ t. (c : Triple) → InFrame frame c → (state_of t).pending c ≡ true) }
-        ensures untaken { IfOk result (λ t. (c : Triple) → InFrame frame c → is_taken t c ≡ false) }
+        ensures { IfOk result (IsFresh frame) }
     {
         index_law();
         let n = frame.size();
@@ -100,6 +96,14 @@ impl Table {
         ensures small { result ≤ choose c.v c.t }
     {
         self.store.bound(c)
+    }
+
+    /// All bounds, in the order of the frame's index.
+    pub fn bounds(&self) -> &[u64]
+        ensures bounds { result.now ≡ self.now.bounds }
+        ensures table { IsTable self.now }
+    {
+        &self.store.bounds
     }
 
     /// The node of a cell: its number in the table's arena.
@@ -154,8 +158,8 @@ impl Table {
         self.store.arena.plan(alloc, self.node(c))
     }
 
-    /// Whether what is found over a ticket may be published in this table. Cost: a few steps for each cell of the frame
-    /// and each row.
+    /// Whether what is found over a ticket may be published in this table. Cost: a step for each cell of the frame, and
+    /// a few more for each row and each cell of which the ticket has another bound or node than the table.
     pub fn fits(&self, ticket: &Ticket) -> bool
         ensures { IsTrue result ↔ Fits self.now.arena ticket.now }
     {
@@ -163,7 +167,14 @@ impl Table {
         let frame = ticket.frame();
         frame == store.arena.frame()
             && are_rows(store.arena.uploads(), ticket.cell(), ticket.rows())
-            && are_nodes(frame, &store.arena, ticket.nodes(), ticket.bounds())
+            && are_nodes(
+                frame,
+                &store.arena,
+                &store.nodes,
+                &store.bounds,
+                ticket.nodes(),
+                ticket.bounds(),
+            )
     }
 }
 
@@ -173,6 +184,7 @@ impl Table {
         ensures room { OnOk result (1 ≤ self.new.arena.spare) }
         ensures same { self.new
             ≡ record self.old { arena = record self.old.arena { spare = self.new.arena.spare } } }
+        ensures err { OnErr result (self.new ≡ self.old) }
         ensures more { self.old.arena.spare ≤ self.new.arena.spare }
         ensures fits { (q : TicketLists) → Fits self.old.arena q → Fits self.new.arena q }
     {
