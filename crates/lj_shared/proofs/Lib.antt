@@ -1,0 +1,4 @@
+pub mod Closing
+pub mod Listed
+pub mod Puts
+pub mod Showing

@@ -1,0 +1,15 @@
+use Rattle.lj_shared.proofs.Puts.{put_with_room}
+use Rattle.lj_shared.proofs.state.State.put.Goals as goal
+
+pub returns-clause-put : goal.returns-clause-put
+returns-clause-put c =
+    put_with_room c.args.self.now.table c.reserve.new.self c.publish.new.self c.args.p.now c.publish.result
+    c.in_ok-reserve.ensures.same (record {
+      step = c.publish.ensures.step;
+      untaken = c.publish.ensures.untaken;
+      taken = c.publish.ensures.taken;
+      nodes = c.publish.ensures.nodes;
+    })
+
+pub returns-clause-stay : goal.returns-clause-stay
+returns-clause-stay c q fits = c.publish.ensures.fits q (c.in_ok-reserve.ensures.fits q fits)
