@@ -1,11 +1,12 @@
 -- The blocks of an induced node, one cut after another.
-use Rattle.std.proofs.Common.{◌≡◌, ℕ, zero, suc, ◌+◌, ◌-◌, ◌<◌, ◌≤◌, cond, ltb, leb, min, List, [], ◌∷◌, ◌++◌, length}
+use Rattle.std.proofs.Common.{◌≡◌, ℕ, zero, suc, ◌+◌, ◌-◌, ◌<◌, ◌≤◌, ltb, leb, min, List, [], ◌∷◌, ◌++◌, length}
 use Rattle.std.proofs.Common.{map, take, drop, get_or, false, refl, sym, ap, ap₂, ◌∙◌, subst, arith, append-nil}
 use Rattle.std.proofs.Common.{length-append, ⊎_elim}
 use Rattle.std.proofs.lemmas.Bool.{cond_both, cond-false, cond-true, false_from_ne_true, leb-true, le-leb, le-ltb}
 use Rattle.std.proofs.lemmas.Bool.{lt-ltb, ltb-true}
 use Rattle.std.proofs.lemmas.Grind.{flat_map-append}
-use Rattle.std.proofs.lemmas.List.{drop-append-le, drop-drop, drop_all, drop_at, drop_more, flat_map_more, length-drop, length-map}
+use Rattle.std.proofs.lemmas.List.{drop-append-le, drop-drop, drop_all, drop_at, drop_more}
+use Rattle.std.proofs.lemmas.List.{length-drop, length-map}
 use Rattle.std.proofs.lemmas.List.{take-append-drop, take-append-le, take_more}
 use Rattle.std.proofs.lemmas.List.Elements.{Contains-get_or}
 use Rattle.std.specs.List.{AllByRecursion, Contains, flat_map}
@@ -13,10 +14,10 @@ use borrow.Rule.Slice.PartMut.{put_mid}
 use Rattle.lj_base.proofs.Lists.{AllByRecursion-from_places, AllByRecursion-front, flat_map-each}
 use Rattle.lj_base.specs.Blocks.{AllBelow, AreBlocks, Has}
 use Rattle.lj_base.specs.Cells.{Triple}
-use Rattle.lj_cover.specs.BlockLists.{at_size, blocks_of_cut, cut_blocks, cut_sizes}
+use Rattle.lj_cover.specs.BlockLists.{at_size, blocks_of_cut, cut_sizes}
 use Rattle.lj_cover.specs.Derivations.{Tree, expand, expands, root_cell, root_cells, tree_cost}
 use Rattle.lj_cover.specs.Operations.{cut, fill, place}
-use Rattle.lj_cover.specs.Rules.{Upload, Induced, rule_children, triple}
+use Rattle.lj_cover.specs.Rules.{Induced, rule_children, triple}
 use Rattle.lj_cover.specs.Sources.{gives}
 use Rattle.lj_deriv.specs.declared.rules.Rule.TheVariants.{Induced as InducedNode}
 use Rattle.lj_deriv.specs.Nodes.{Steps, step_tree}
@@ -73,7 +74,8 @@ given-cut sizes_law lists_law child_law p i c u children b h there =
     let points = cut c.v b in
     let l = length points in
     ap (λ t. blocks_of_cut t c.k (expand (tree_at ts (g l))) points) h.same_t
-    ∙ child_law up.cell.t c.k (expand (tree_at ts (g l))) (at_size sizes (expands (trees_at ts (map g sizes))) [] l) points
+    ∙ child_law up.cell.t c.k (expand (tree_at ts (g l))) (at_size sizes (expands (trees_at ts (map g sizes))) [] l)
+    points
     (λ above.
     sym (ap (λ lists. at_size sizes lists [] l) (lists-at ts g sizes)
     ∙ lists_law (λ n. expand (tree_at ts (g n))) sizes l
@@ -85,7 +87,8 @@ given-each : SizesLaw → ListsLaw → ChildLaw → (p : Steps) (i : ℕ) (c : T
 given-each sizes_law lists_law child_law p i c u children h =
     let bs = (upload_at p.uploads u).blocks in
     AllByRecursion-from_places (λ b. cut_list p c children b ≡ given p c u children b) [] bs
-    (λ n inside. given-cut sizes_law lists_law child_law p i c u children (get_or bs n []) h (Contains-get_or bs n [] inside))
+    (λ n inside. given-cut sizes_law lists_law child_law p i c u children (get_or bs n []) h
+    (Contains-get_or bs n [] inside))
 
 child-found : SizesLaw → (p : Steps) (i : ℕ) (c : Triple) (u : ℕ) (children : List ℕ) (b : List ℕ)
     → IsInducedRule p i c u children → Contains (upload_at p.uploads u).blocks b → c.k < length (cut c.v b)
@@ -231,7 +234,8 @@ cut-step f bs whole out ys i done n r at offset b room long inside b_is so_far r
 -- ---- a cut that its child serves
 
 -- the cut has points enough for its child: the child's blocks, placed on the points, are the cut's
-pub record IsLargeCut (p : Steps) (node : ℕ) (c : Triple) (children b points : List ℕ) (size cost offset : ℕ) : Type 0 where
+pub record IsLargeCut (p : Steps) (node : ℕ) (c : Triple) (children b points : List ℕ) (size cost offset : ℕ)
+    : Type 0 where
   pub earlier : get_or children size 0 < node
   pub points_are : (root_cell (step_tree p (get_or children size 0))).v ≡ length points
   pub list : cut_list p c children b ≡ map (place points) (expand (step_tree p (get_or children size 0)))

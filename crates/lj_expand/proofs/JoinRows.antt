@@ -1,14 +1,13 @@
 -- The blocks of one part of a product, row by row: a row has one block of the first factor.
-use Rattle.std.proofs.Common.{◌≡◌, ℕ, zero, suc, ◌+◌, ◌-◌, ◌*◌, ◌/◌, ◌%◌, ◌<◌, ◌≤◌, min, List, [], ◌∷◌, ◌++◌, Some}
-use Rattle.std.proofs.Common.{length, map, take, drop, get_or, refl, sym, ap, ap₂, ◌∙◌, subst, arith, append_assoc}
-use Rattle.std.proofs.Common.{length-append, mul-le-mul_right, ⊎_elim}
+use Rattle.std.proofs.Common.{◌≡◌, ℕ, zero, suc, ◌+◌, ◌*◌, ◌/◌, ◌<◌, ◌≤◌, List, [], ◌∷◌, ◌++◌, Some}
+use Rattle.std.proofs.Common.{length, map, take, drop, refl, sym, ap, ◌∙◌, arith, append_assoc}
+use Rattle.std.proofs.Common.{mul-le-mul_right, ⊎_elim}
 use Rattle.std.proofs.lemmas.Bool.{cases_lt}
-use Rattle.std.proofs.lemmas.List.{drop-append-le, drop-drop, drop_more, length-drop, length-map, length-take-le}
+use Rattle.std.proofs.lemmas.List.{drop-append-le, drop-drop, drop_more, length-drop, length-map}
 use Rattle.std.proofs.lemmas.List.{take-append-drop, take-append-le}
 use Rattle.std.proofs.lemmas.Nat.{div_below}
 use Rattle.std.proofs.lemmas.Option.{get_or_from_slice_get, none-some, same_Some, slice_get_within}
 use Rattle.std.specs.List.{slice_get}
-use Rattle.lj_base.proofs.Lists.{slice_get-append_left, slice_get-append_right, slice_get-inside}
 use Rattle.lj_cover.specs.BlockLists.{join_blocks}
 use Rattle.lj_cover.specs.Operations.{unite}
 use Rattle.lj_expand.proofs.Runs.{drop-past, map-part}

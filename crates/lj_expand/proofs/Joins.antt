@@ -1,18 +1,18 @@
 -- The parts of a product by position.
-use Rattle.std.proofs.Common.{◌≡◌, ℕ, zero, suc, ◌+◌, ◌-◌, ◌*◌, ◌<◌, ◌≤◌, List, [], ◌∷◌, ◌++◌, length, map, take, drop}
+use Rattle.std.proofs.Common.{◌≡◌, ℕ, zero, suc, ◌+◌, ◌-◌, ◌*◌, ◌<◌, List, [], ◌∷◌, ◌++◌, length, take, drop}
 use Rattle.std.proofs.Common.{get_or, refl, sym, ap, ap₂, ◌∙◌, arith, subst}
 use Rattle.std.proofs.lemmas.List.{drop-append-le, drop_all, drop_more, length-drop, take-append-le}
 use Rattle.std.specs.List.{AllByRecursion, flat_map}
 use Rattle.lj_base.proofs.Lists.{AllByRecursion-from_places}
 use Rattle.lj_base.specs.Cells.{IsCell, Triple}
 use Rattle.lj_base.specs.declared.limits.TheConstants.{COST_LIMIT}
-use Rattle.lj_cover.specs.Derivations.{AreDerivations, IsDerivation, IsSound, Tree, expand, expands, root_cell}
-use Rattle.lj_cover.specs.Derivations.{root_cells, tree_cost, tree_costs}
-use Rattle.lj_cover.specs.Rules.{part_cells, rule_children, triple}
+use Rattle.lj_cover.specs.Derivations.{AreDerivations, IsDerivation, Tree, expand, root_cell}
+use Rattle.lj_cover.specs.Derivations.{root_cells, tree_cost}
+use Rattle.lj_cover.specs.Rules.{part_cells, triple}
 use Rattle.lj_deriv.specs.declared.rules.Part.{Part}
 use Rattle.lj_deriv.specs.declared.rules.Rule.TheVariants.{Product as ProductNode}
 use Rattle.lj_deriv.specs.Nodes.{Steps, step_tree}
-use Rattle.lj_deriv.specs.Trees.{build, children_of, rule_of, tree_at, trees_at, trees_of}
+use Rattle.lj_deriv.specs.Trees.{build, children_of, tree_at, trees_at, trees_of}
 use Rattle.lj_expand.specs.Expansions.{bounds_of, factors_of}
 use Rattle.lj_expand.specs.Positions.{IsPartSpot, IsProductNode, IsRun, IsUnited, blocks_of_parts, cost_of_parts}
 use Rattle.lj_expand.specs.Positions.{part_at, part_blocks, part_cost}

@@ -1,6 +1,6 @@
 -- Blocks in a row: what stands from a position on, and lists that are filled from the front.
 use Rattle.std.proofs.Common.{◌≡◌, ℕ, zero, suc, ◌+◌, ◌-◌, ◌<◌, ◌≤◌, Bool, true, false, cond, List, [], ◌∷◌, ◌++◌, Some}
-use Rattle.std.proofs.Common.{length, map, take, drop, get_or, set, refl, sym, ap, ap₂, ◌∙◌, subst, arith}
+use Rattle.std.proofs.Common.{length, map, take, drop, get_or, set, refl, sym, ap, ap₂, ◌∙◌, arith}
 use Rattle.std.proofs.Common.{append_assoc, length-append}
 use Rattle.std.proofs.lemmas.List.{drop-drop, drop-map, drop_more, drop_all, length-drop, length-take-le, set_split}
 use Rattle.std.proofs.lemmas.List.{take-append-le}
@@ -141,8 +141,13 @@ rest-some p f bs target out place done room fits so_far = by (length bs - place)
     by : (n : ℕ) → length bs - place ≡ n → place < length bs
     by zero e =
         let none = drop_all place bs (omega arith) in
-        absurd (omega (arith, ap length so_far, length-append (take done out) (map f (filter p (drop place bs))),
-        ap (λ xs. length (map f (filter p xs))) none, length-take-le done out (omega arith)))
+        absurd (omega (
+          arith,
+          ap length so_far,
+          length-append (take done out) (map f (filter p (drop place bs))),
+          ap (λ xs. length (map f (filter p xs))) none,
+          length-take-le done out (omega arith),
+        ))
     by (suc n) e = omega arith
 
 -- a slice of which a part is written is as long as before

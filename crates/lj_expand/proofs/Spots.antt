@@ -1,7 +1,7 @@
 -- Blocks by position, and what the first blocks of an upload give.
-use Rattle.std.proofs.Common.{◌≡◌, ℕ, zero, suc, ◌+◌, ◌*◌, ◌≤◌, List, [], ◌∷◌, ◌++◌, Some, length, map, take}
+use Rattle.std.proofs.Common.{◌≡◌, ℕ, zero, suc, ◌+◌, ◌*◌, List, [], ◌∷◌, ◌++◌, Some, length, map, take}
 use Rattle.std.proofs.Common.{refl, sym, ap, ap₂, ◌∙◌, subst, arith, length-append}
-use Rattle.std.proofs.lemmas.List.{length-map, take_all}
+use Rattle.std.proofs.lemmas.List.{length-map}
 use Rattle.std.proofs.lemmas.List.Concat.{length-flat_map}
 use Rattle.std.proofs.lemmas.List.Sums.{sum_by-cons}
 use Rattle.std.proofs.lemmas.Option.{none-some, same_Some, slice_get-map}
@@ -16,8 +16,7 @@ use Rattle.lj_cover.specs.Derivations.{tree_cost, tree_costs}
 use Rattle.lj_cover.specs.Operations.{unite}
 use Rattle.lj_cover.specs.Rules.{Rule, rule_blocks, rule_cost}
 use Rattle.lj_cover.specs.Sources.{IsBlockwise, gives, share, source}
-use Rattle.lj_deriv.specs.Positions.{before, tree_source}
-use Rattle.lj_expand.specs.Positions.{IsSourced}
+use Rattle.lj_deriv.specs.Positions.{before}
 
 -- a derivation gives as many blocks as it costs
 abbrev pub CountsLaw : Type 0

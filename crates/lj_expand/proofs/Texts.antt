@@ -1,5 +1,5 @@
 -- The lines of blocks, one after another.
-use Rattle.std.proofs.Common.{◌≡◌, ℕ, zero, suc, ◌+◌, ◌*◌, ◌/◌, ◌%◌, ◌<◌, ◌≤◌, List, [], ◌∷◌, ◌++◌, Result, Ok, Err}
+use Rattle.std.proofs.Common.{◌≡◌, ℕ, suc, ◌+◌, ◌*◌, ◌/◌, ◌%◌, ◌<◌, ◌≤◌, List, [], ◌∷◌, ◌++◌, Result, Ok, Err}
 use Rattle.std.proofs.Common.{OnErr, decimal, drop, get_or, length, set, take, refl, sym, ap, ◌∙◌, subst, arith}
 use Rattle.std.proofs.Common.{append_assoc, append-nil, length-append, ⊎_elim}
 use Rattle.std.proofs.lemmas.Bool.{cases_eq}
@@ -91,7 +91,8 @@ texts-more texts i text inside h here p low =
     let next : i + 1 ≡ suc p = omega arith in
     subst (IsText (suc p)) (ap (λ j. get_or (set texts i text) j []) same) (subst (IsText (suc p))
     (sym (get_or-set_same texts i text [] inside)) (subst (λ n. IsText n text) next here)))
-    (λ other. subst (IsText (suc p)) (sym (get_or-set_other texts i p text [] (λ e. other (sym e)))) (h p (omega arith)))
+    (λ other. subst (IsText (suc p)) (sym (get_or-set_other texts i p text [] (λ e. other (sym e))))
+    (h p (omega arith)))
     (cases_eq i p)
 
 -- the text of a point is looked up

@@ -110,7 +110,10 @@ fn fill_from(plan: &Plan, node: u64, i: u64, out: &mut [Block])
         }
         Rule::Lower { child } => fill_from(plan, *child, i, out),
         Rule::Product {
-            v1, parts, count, ..
+            v1,
+            parts,
+            count,
+            ..
         } => {
             let parts = &parts[..*count as usize];
             fill_product(plan, node, u64::from(*v1), parts, i, out);
@@ -156,14 +159,7 @@ fn fill_product(plan: &Plan, node: u64, v1: u64, parts: &[Part], i: u64, out: &m
 // Fills the front of `out` with blocks of one part of a product, from an offset on, and returns their number: those of
 // one row, where one block of the first factor is united with the second's, or of several that are short.
 #[cycle(batch)]
-fn fill_row(
-    plan: &Plan,
-    node: u64,
-    v1: u64,
-    part: Part,
-    offset: u64,
-    out: &mut [Block],
-) -> usize
+fn fill_row(plan: &Plan, node: u64, v1: u64, part: Part, offset: u64, out: &mut [Block]) -> usize
     requires there { node < length plan.now.rules }
     requires first { part.first < node }
     requires second { part.second < node }
@@ -188,14 +184,7 @@ fn fill_row(
 
 // Does so over whole rows: the blocks of the second factor, which are few, and some of the first are made once for all.
 #[cycle(batch)]
-fn fill_rows(
-    plan: &Plan,
-    node: u64,
-    v1: u64,
-    part: Part,
-    offset: u64,
-    out: &mut [Block],
-) -> usize
+fn fill_rows(plan: &Plan, node: u64, v1: u64, part: Part, offset: u64, out: &mut [Block]) -> usize
     requires there { node < length plan.now.rules }
     requires first { part.first < node }
     requires second { part.second < node }
@@ -226,14 +215,7 @@ fn fill_rows(
 
 // Fills `out` with the blocks of an induced node, from position `i` on.
 #[cycle(batch)]
-fn fill_induced(
-    plan: &Plan,
-    node: u64,
-    cell: Cell,
-    children: &[u64; 26],
-    i: u64,
-    out: &mut [Block],
-)
+fn fill_induced(plan: &Plan, node: u64, cell: Cell, children: &[u64; 26], i: u64, out: &mut [Block])
     requires there { node < length plan.now.rules }
     requires sourced { IsSourced (step_tree plan.now node) }
     requires induced { IsInducedNode plan.now node cell children.now (tree_source (step_tree plan.now node)) }

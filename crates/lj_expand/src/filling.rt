@@ -147,13 +147,7 @@ pub(crate) fn unite_each(first: Block, v1: u64, out: &mut [Block])
 }
 
 /// Each of the first blocks united with each of the second ones, which run faster, from a position in the first row on.
-pub(crate) fn unite_all(
-    firsts: &[Block],
-    seconds: &[Block],
-    v1: u64,
-    from: u64,
-    out: &mut [Block],
-)
+pub(crate) fn unite_all(firsts: &[Block], seconds: &[Block], v1: u64, from: u64, out: &mut [Block])
     requires first { AllByRecursion (AllBelow v1) firsts.now }
     requires second { AllByRecursion (AllBelow (99 - v1)) seconds.now }
     requires short { AllByRecursion (λ a. AllByRecursion (λ b. length a + length b ≤ 25) seconds.now) firsts.now }

@@ -1,28 +1,28 @@
-use Rattle.std.proofs.Common.{◌≡◌, ◌+◌, ◌-◌, ◌*◌, ◌/◌, ◌%◌, ◌<◌, ◌≤◌, ◌∷◌, ◌++◌, [], ◌∙◌, Some, ap, ap₂, arith, drop, get_or}
+use Rattle.std.proofs.Common.{◌≡◌, ◌+◌, ◌-◌, ◌*◌, ◌/◌, ◌%◌, ◌<◌, ◌≤◌, ◌∷◌, [], ◌∙◌, ap}
+use Rattle.std.proofs.Common.{ap₂, arith, drop, get_or}
 use Rattle.std.proofs.Common.{length, map, min, refl, subst, sym, take, List, ℕ}
 use Rattle.std.proofs.Math.Nat.{mul-le-mul_right}
-use Rattle.std.proofs.lemmas.List.{get_or_read, length-append, length-drop, length-map, length-take-le, take_all}
+use Rattle.std.proofs.lemmas.List.{get_or_read, length-append, length-drop, length-take-le, take_all}
 use Rattle.std.proofs.lemmas.List.{take_more_set}
 use borrow.Rule.Slice.PartMut.{put_mid}
 use Rattle.lj_base.specs.Colex.{choose}
 use Rattle.lj_cover.specs.BlockLists.{ceil_div}
-use Rattle.std.proofs.lemmas.List.Elements.{Contains-get_or}
 use Rattle.std.proofs.lemmas.Nat.{div-add-mod', mod_below}
-use Rattle.std.specs.List.{AllByRecursion, Contains, flat_map, range_with_len, slice_get}
+use Rattle.std.specs.List.{AllByRecursion, Contains, range_with_len}
 use Rattle.lj_base.proofs.Ascending.{AllBelow-from_Ascends}
 use Rattle.lj_base.proofs.Lists.{AllByRecursion-at, AllByRecursion-weaker}
-use Rattle.lj_base.specs.Blocks.{AllBelow, AreBlocks, IsBlock}
-use Rattle.lj_base.specs.Cells.{IsCell, Triple}
-use Rattle.lj_cover.specs.BlockLists.{derived2_blocks, derived_blocks, join_blocks}
-use Rattle.lj_cover.specs.Derivations.{IsDerivation, IsSound, Tree, expand, root_cell, root_cells, tree_cost}
+use Rattle.lj_base.specs.Blocks.{AllBelow}
+use Rattle.lj_base.specs.Cells.{Triple}
+use Rattle.lj_cover.specs.BlockLists.{join_blocks}
+use Rattle.lj_cover.specs.Derivations.{IsSound, expand, root_cell, root_cells, tree_cost}
 use Rattle.lj_cover.specs.Designs.{Covering}
 use Rattle.lj_cover.specs.Operations.{cut, fill, place, unite}
 use Rattle.lj_cover.specs.Rules.{Upload, rule_children}
-use Rattle.lj_deriv.specs.Nodes.{IsShaped, build, children_of, rule_of, step_tree, trees_at, trees_of, upload_at}
+use Rattle.lj_deriv.specs.Nodes.{IsShaped, build, children_of, rule_of, step_tree, trees_at, trees_of}
 use Rattle.lj_deriv.specs.Positions.{source_at, tree_share, tree_source}
 use Rattle.lj_expand.specs.Expansions.{factors_of}
-use Rattle.lj_expand.specs.Positions.{IsInducedNode, IsSourced, IsUnited, cut_list, part_at, part_blocks, part_cost}
-use Rattle.lj_expand.proofs.CutRows.{cut-below, cut-none, cut-own, cut-placed, cut-step, cuts-some, cuts-start}
+use Rattle.lj_expand.specs.Positions.{IsInducedNode, IsSourced, IsUnited, cut_list}
+use Rattle.lj_expand.proofs.CutRows.{cut-below, cut-none, cut-own, cut-step, cuts-some, cuts-start}
 use Rattle.lj_expand.proofs.CutRows.{induced-node, large-cut, share-length}
 use Rattle.lj_expand.proofs.Fills.{add-from, all-below, all-beside, all-from, all-sized, all-within, beside, block-of}
 use Rattle.lj_expand.proofs.Fills.{blocks-of, derived-from, derived2-from, drop-from, grow-from, leaf-from, one-from}
@@ -41,9 +41,16 @@ fill_cut-returns-then-size-from-clause-count t c =
     let v : c.from.result ≡ cell.v = omega (arith, c.from.ensures, ap (λ (x : Triple). x.v) c.cell.view_is) in
     let same = c.cut_first-points.ensures ∙ ap (λ w. cut w c.args.block) v in
     let small : length points < cell.t =
-    omega (arith, c.len-size.ensures.len, ap length same, c.from-2.ensures, ap (λ (x : Triple). x.t) c.cell.view_is,
-    c.if-size-from.true) in
-    let none = cut-none cell.t cell.k (expand (step_tree c.args.plan.now (get_or c.args.children.now (length points) 0)))
+    omega (
+      arith,
+      c.len-size.ensures.len,
+      ap length same,
+      c.from-2.ensures,
+      ap (λ (x : Triple). x.t) c.cell.view_is,
+      c.if-size-from.true,
+    ) in
+    let none = cut-none cell.t cell.k (expand
+    (step_tree c.args.plan.now (get_or c.args.children.now (length points) 0)))
     points small in
     omega (arith, ap length none)
 
@@ -54,11 +61,23 @@ fill_cut-returns-then-offset-gt0-clause-count t c =
     let v : c.from.result ≡ cell.v = omega (arith, c.from.ensures, ap (λ (x : Triple). x.v) c.cell.view_is) in
     let same = c.cut_first-points.ensures ∙ ap (λ w. cut w c.args.block) v in
     let large : cell.t ≤ length points =
-    omega (arith, c.len-size.ensures.len, ap length same, c.from-2.ensures, ap (λ (x : Triple). x.t) c.cell.view_is,
-    c.if-size-from.false) in
+    omega (
+      arith,
+      c.len-size.ensures.len,
+      ap length same,
+      c.from-2.ensures,
+      ap (λ (x : Triple). x.t) c.cell.view_is,
+      c.if-size-from.false,
+    ) in
     let room : length points ≤ cell.k =
-    omega (arith, c.len-size.ensures.len, ap length same, c.from-3.ensures, ap (λ (x : Triple). x.k) c.cell.view_is,
-    c.if-size-from-2.true) in
+    omega (
+      arith,
+      c.len-size.ensures.len,
+      ap length same,
+      c.from-3.ensures,
+      ap (λ (x : Triple). x.k) c.cell.view_is,
+      c.if-size-from-2.true,
+    ) in
     let own = cut-own cell.t cell.k (expand (step_tree c.args.plan.now (get_or c.args.children.now (length points) 0)))
     points large room in
     omega (arith, ap length own, c.if-offset-gt0.true)
@@ -77,11 +96,23 @@ fill_cut-returns-then-size-from-2-clause-count t c =
     let v : c.from.result ≡ cell.v = omega (arith, c.from.ensures, ap (λ (x : Triple). x.v) c.cell.view_is) in
     let same = c.cut_first-points.ensures ∙ ap (λ w. cut w c.args.block) v in
     let large : cell.t ≤ length points =
-    omega (arith, c.len-size.ensures.len, ap length same, c.from-2.ensures, ap (λ (x : Triple). x.t) c.cell.view_is,
-    c.if-size-from.false) in
+    omega (
+      arith,
+      c.len-size.ensures.len,
+      ap length same,
+      c.from-2.ensures,
+      ap (λ (x : Triple). x.t) c.cell.view_is,
+      c.if-size-from.false,
+    ) in
     let room : length points ≤ cell.k =
-    omega (arith, c.len-size.ensures.len, ap length same, c.from-3.ensures, ap (λ (x : Triple). x.k) c.cell.view_is,
-    c.if-size-from-2.true) in
+    omega (
+      arith,
+      c.len-size.ensures.len,
+      ap length same,
+      c.from-3.ensures,
+      ap (λ (x : Triple). x.k) c.cell.view_is,
+      c.if-size-from-2.true,
+    ) in
     let own = cut-own cell.t cell.k (expand (step_tree c.args.plan.now (get_or c.args.children.now (length points) 0)))
     points large room in
     omega (arith, ap length own, c.if-offset-gt0.false, c.requires.some)
@@ -95,11 +126,23 @@ fill_cut-returns-then-size-from-2-clause-blocks t c =
     omega (arith, c.from-then-size-from-2-2.ensures, ap (λ (x : Triple). x.k) c.cell.view_is) in
     let same = c.cut_first-points.ensures ∙ ap (λ w. cut w c.args.block) v in
     let large : cell.t ≤ length points =
-    omega (arith, c.len-size.ensures.len, ap length same, c.from-2.ensures, ap (λ (x : Triple). x.t) c.cell.view_is,
-    c.if-size-from.false) in
+    omega (
+      arith,
+      c.len-size.ensures.len,
+      ap length same,
+      c.from-2.ensures,
+      ap (λ (x : Triple). x.t) c.cell.view_is,
+      c.if-size-from.false,
+    ) in
     let room : length points ≤ cell.k =
-    omega (arith, c.len-size.ensures.len, ap length same, c.from-3.ensures, ap (λ (x : Triple). x.k) c.cell.view_is,
-    c.if-size-from-2.true) in
+    omega (
+      arith,
+      c.len-size.ensures.len,
+      ap length same,
+      c.from-3.ensures,
+      ap (λ (x : Triple). x.k) c.cell.view_is,
+      c.if-size-from-2.true,
+    ) in
     let own = cut-own cell.t cell.k (expand (step_tree c.args.plan.now (get_or c.args.children.now (length points) 0)))
     points large room in
     let start : c.args.offset ≡ 0 = omega (arith, c.if-offset-gt0.false) in
@@ -121,7 +164,8 @@ fill_cut-cost_of-cost-requires t c =
 
 pub fill_cut-overflow_sub-cost : goal.fill_cut-overflow_sub-cost
 fill_cut-overflow_sub-cost t c =
-    let h = large-cut c.expansion_covers.ensures.counts c.args.plan.now c.args.node c.args.cell c.args.children.now c.args.block
+    let h = large-cut c.expansion_covers.ensures.counts c.args.plan.now c.args.node c.args.cell c.args.children.now
+    c.args.block
     c.cut_first-points.result c.from.result c.len-size.result c.cost_of-cost.result c.args.offset
     c.cut_first-points.ensures (omega (arith, c.from.ensures, ap (λ (x : Triple). x.v) c.cell.view_is))
     c.len-size.ensures.len
@@ -136,7 +180,8 @@ fill_cut-slice_bounds-row-end-2 t c =
 
 pub fill_cut-fill_from-requires : goal.fill_cut-fill_from-requires
 fill_cut-fill_from-requires t c =
-    let h = large-cut c.expansion_covers.ensures.counts c.args.plan.now c.args.node c.args.cell c.args.children.now c.args.block
+    let h = large-cut c.expansion_covers.ensures.counts c.args.plan.now c.args.node c.args.cell c.args.children.now
+    c.args.block
     c.cut_first-points.result c.from.result c.len-size.result c.cost_of-cost.result c.args.offset
     c.cut_first-points.ensures (omega (arith, c.from.ensures, ap (λ (x : Triple). x.v) c.cell.view_is))
     c.len-size.ensures.len
@@ -155,7 +200,8 @@ fill_cut-fill_from-requires t c =
 
 pub fill_cut-place_each-requires : goal.fill_cut-place_each-requires
 fill_cut-place_each-requires t c =
-    let h = large-cut c.expansion_covers.ensures.counts c.args.plan.now c.args.node c.args.cell c.args.children.now c.args.block
+    let h = large-cut c.expansion_covers.ensures.counts c.args.plan.now c.args.node c.args.cell c.args.children.now
+    c.args.block
     c.cut_first-points.result c.from.result c.len-size.result c.cost_of-cost.result c.args.offset
     c.cut_first-points.ensures (omega (arith, c.from.ensures, ap (λ (x : Triple). x.v) c.cell.view_is))
     c.len-size.ensures.len
@@ -168,7 +214,8 @@ fill_cut-place_each-requires t c =
 
 pub fill_cut-returns-clause-count : goal.fill_cut-returns-clause-count
 fill_cut-returns-clause-count t c =
-    let h = large-cut c.expansion_covers.ensures.counts c.args.plan.now c.args.node c.args.cell c.args.children.now c.args.block
+    let h = large-cut c.expansion_covers.ensures.counts c.args.plan.now c.args.node c.args.cell c.args.children.now
+    c.args.block
     c.cut_first-points.result c.from.result c.len-size.result c.cost_of-cost.result c.args.offset
     c.cut_first-points.ensures (omega (arith, c.from.ensures, ap (λ (x : Triple). x.v) c.cell.view_is))
     c.len-size.ensures.len
@@ -179,7 +226,8 @@ fill_cut-returns-clause-count t c =
 
 pub fill_cut-returns-clause-blocks : goal.fill_cut-returns-clause-blocks
 fill_cut-returns-clause-blocks t c =
-    let h = large-cut c.expansion_covers.ensures.counts c.args.plan.now c.args.node c.args.cell c.args.children.now c.args.block
+    let h = large-cut c.expansion_covers.ensures.counts c.args.plan.now c.args.node c.args.cell c.args.children.now
+    c.args.block
     c.cut_first-points.result c.from.result c.len-size.result c.cost_of-cost.result c.args.offset
     c.cut_first-points.ensures (omega (arith, c.from.ensures, ap (λ (x : Triple). x.v) c.cell.view_is))
     c.len-size.ensures.len
@@ -216,7 +264,8 @@ fill_induced-cuts-init t c =
       len = refl;
       upto = omega arith;
       blocks = refl;
-      rest = λ room. cuts-start d f bs (expand d) c.args.i at c.spot_of-spot.result.offset node.blocks node.counts spot.sum;
+      rest = λ room. cuts-start d f bs (expand d) c.args.i at c.spot_of-spot.result.offset node.blocks node.counts
+          spot.sum;
       within = omega (arith, spot.within, wide);
     }
 
@@ -226,7 +275,8 @@ fill_induced-bounds-source-place t c =
     let d = step_tree p c.args.node in
     let f : List ℕ → List (List ℕ) = cut_list p c.args.cell c.args.children.now in
     let h = c.cuts.invariant in
-    cuts-some f c.source-source.result.now (expand d) c.args.i (length c.cuts.out) c.cuts.done c.cuts.place c.cuts.offset
+    cuts-some f c.source-source.result.now (expand d) c.args.i (length c.cuts.out) c.cuts.done c.cuts.place
+    c.cuts.offset
     (omega (arith, c.expansion_covers.ensures.counts d, c.requires.fits, h.len)) c.cuts-test.true
     (h.rest c.cuts-test.true)
 
@@ -331,7 +381,8 @@ fill_induced-cuts-preserved t c =
 pub fill_induced-returns : goal.fill_induced-returns
 fill_induced-returns t c =
     let h = c.cuts.invariant in
-    run-all c.cuts.out (expand (step_tree c.args.plan.now c.args.node)) c.args.i (length c.args.out.now) c.cuts.done h.len
+    run-all c.cuts.out (expand (step_tree c.args.plan.now c.args.node)) c.args.i (length c.args.out.now) c.cuts.done
+    h.len
     (omega (arith, c.cuts-test.false, h.len)) (omega (arith, h.upto, h.len)) h.blocks
 
 -- ---- a product, one part after another
@@ -422,7 +473,8 @@ fill_product-parts-preserved t c =
 pub fill_product-returns : goal.fill_product-returns
 fill_product-returns t c =
     let h = c.parts.invariant in
-    run-all c.parts.out (expand (step_tree c.args.plan.now c.args.node)) c.args.i (length c.args.out.now) c.parts.done h.len
+    run-all c.parts.out (expand (step_tree c.args.plan.now c.args.node)) c.args.i (length c.args.out.now) c.parts.done
+    h.len
     (omega (arith, c.parts-test.false, h.len)) (omega (arith, h.upto, h.len)) h.blocks
 
 -- ---- one row
@@ -832,8 +884,13 @@ fill_from-fill_through-requires t c =
     }) us ts d c.in-Derived.upload c.in-Derived.point c.args.i c.spot_of-spot.result.place c.spot_of-spot.result.offset
     c.source.result.now unfolds c.spot_of-spot.ensures c.source.ensures in
     record {
-      fits = omega (arith, ap length same, length-drop c.args.i (expand d), c.expansion_covers.ensures.counts d,
-          c.requires.fits);
+      fits = omega (
+        arith,
+        ap length same,
+        length-drop c.args.i (expand d),
+        c.expansion_covers.ensures.counts d,
+        c.requires.fits,
+      );
     }
 
 pub fill_from-fill_through2-requires : goal.fill_from-fill_through2-requires
@@ -853,8 +910,13 @@ fill_from-fill_through2-requires t c =
     c.spot_of-spot-in-Derived2.result.place c.spot_of-spot-in-Derived2.result.offset c.source-in-Derived2.result.now
     unfolds c.spot_of-spot-in-Derived2.ensures c.source-in-Derived2.ensures in
     record {
-      fits = omega (arith, ap length same, length-drop c.args.i (expand d), c.expansion_covers.ensures.counts d,
-          c.requires.fits);
+      fits = omega (
+        arith,
+        ap length same,
+        length-drop c.args.i (expand d),
+        c.expansion_covers.ensures.counts d,
+        c.requires.fits,
+      );
     }
 
 pub fill_from-fill_from-requires : goal.fill_from-fill_from-requires
@@ -865,7 +927,8 @@ fill_from-fill_from-requires t c =
     let d = step_tree p c.args.node in
     let n = length c.args.out.now in
     let unfolds = c.rule.ensures.unfolds ∙ ap (build us ts) c.in-Drop.is in
-    let kids = subst (λ r. AllByRecursion (λ j. j < c.args.node) (children_of us r)) c.in-Drop.is c.rule.ensures.children in
+    let kids = subst (λ r. AllByRecursion (λ j. j < c.args.node) (children_of us r)) c.in-Drop.is
+    c.rule.ensures.children in
     let same : tree_cost (step_tree p c.in-Drop.child) ≡ tree_cost d = sym (ap tree_cost unfolds) in
     let lower : 6 * c.in-Drop.child + 4 < t = omega (arith, c.decreases, kids.0) in
     (lower, (omega (arith, c.requires.there, kids.0), omega (arith, same, c.requires.fits)))
@@ -877,10 +940,19 @@ fill_from-drop_each-requires-clause-below t c =
     let kid = root_cell (step_tree c.args.plan.now c.in-Drop.child) in
     let sound = subst (λ r. IsSound (rule_of us ts r)) c.in-Drop.is c.rule.ensures.sound in
     let v : kid.v ≡ c.from-v.result =
-    omega (arith, c.from-v.ensures, ap (λ (x : Triple). x.v) c.from-in-Drop.view_is,
-    ap (λ (x : Triple). x.v) c.cell_of.ensures) in
-    all-below kid.v kid.k _ _ (omega (arith, v, c.from-in-Drop.invariant, ap (λ (x : Triple). x.v) c.cell_of.ensures,
-    ap (λ (x : Triple). x.v) c.from-in-Drop.view_is))
+    omega (
+      arith,
+      c.from-v.ensures,
+      ap (λ (x : Triple). x.v) c.from-in-Drop.view_is,
+      ap (λ (x : Triple). x.v) c.cell_of.ensures,
+    ) in
+    all-below kid.v kid.k _ _ (omega (
+      arith,
+      v,
+      c.from-in-Drop.invariant,
+      ap (λ (x : Triple). x.v) c.cell_of.ensures,
+      ap (λ (x : Triple). x.v) c.from-in-Drop.view_is,
+    ))
     (blocks-of c.expansion_covers.ensures.covers (step_tree c.args.plan.now c.in-Drop.child) _ _ _
     c.cost_of-cost-in-Drop.ensures.derivation c.fill_from.ensures)
 
@@ -891,8 +963,12 @@ fill_from-drop_each-requires-clause-room t c =
     let kid = root_cell (step_tree c.args.plan.now c.in-Drop.child) in
     let sound = subst (λ r. IsSound (rule_of us ts r)) c.in-Drop.is c.rule.ensures.sound in
     let v : kid.v ≡ c.from-v.result =
-    omega (arith, c.from-v.ensures, ap (λ (x : Triple). x.v) c.from-in-Drop.view_is,
-    ap (λ (x : Triple). x.v) c.cell_of.ensures) in
+    omega (
+      arith,
+      c.from-v.ensures,
+      ap (λ (x : Triple). x.v) c.from-in-Drop.view_is,
+      ap (λ (x : Triple). x.v) c.cell_of.ensures,
+    ) in
     all-sized kid.v kid.k _ _ (omega (arith, v, sound.condition))
     (blocks-of c.expansion_covers.ensures.covers (step_tree c.args.plan.now c.in-Drop.child) _ _ _
     c.cost_of-cost-in-Drop.ensures.derivation c.fill_from.ensures)
@@ -905,7 +981,8 @@ fill_from-fill_from-requires-in-Add t c =
     let d = step_tree p c.args.node in
     let n = length c.args.out.now in
     let unfolds = c.rule.ensures.unfolds ∙ ap (build us ts) c.in-Add.is in
-    let kids = subst (λ r. AllByRecursion (λ j. j < c.args.node) (children_of us r)) c.in-Add.is c.rule.ensures.children in
+    let kids = subst (λ r. AllByRecursion (λ j. j < c.args.node) (children_of us r)) c.in-Add.is
+    c.rule.ensures.children in
     let same : tree_cost (step_tree p c.in-Add.child) ≡ tree_cost d = sym (ap tree_cost unfolds) in
     let lower : 6 * c.in-Add.child + 4 < t = omega (arith, c.decreases, kids.0) in
     (lower, (omega (arith, c.requires.there, kids.0), omega (arith, same, c.requires.fits)))
@@ -950,7 +1027,8 @@ fill_from-fill_from-requires-in-Grow t c =
     let d = step_tree p c.args.node in
     let n = length c.args.out.now in
     let unfolds = c.rule.ensures.unfolds ∙ ap (build us ts) c.in-Grow.is in
-    let kids = subst (λ r. AllByRecursion (λ j. j < c.args.node) (children_of us r)) c.in-Grow.is c.rule.ensures.children in
+    let kids = subst (λ r. AllByRecursion (λ j. j < c.args.node) (children_of us r)) c.in-Grow.is
+    c.rule.ensures.children in
     let same : tree_cost (step_tree p c.in-Grow.child) ≡ tree_cost d = sym (ap tree_cost unfolds) in
     let lower : 6 * c.in-Grow.child + 4 < t = omega (arith, c.decreases, kids.0) in
     (lower, (omega (arith, c.requires.there, kids.0), omega (arith, same, c.requires.fits)))
@@ -962,11 +1040,19 @@ fill_from-grow_each-requires-clause-below t c =
     let kid = root_cell (step_tree c.args.plan.now c.in-Grow.child) in
     let sound = subst (λ r. IsSound (rule_of us ts r)) c.in-Grow.is c.rule.ensures.sound in
     let v : c.from-in-Grow.result ≡ kid.v =
-    omega (arith, c.from-in-Grow.ensures, ap (λ (x : Triple). x.v) c.cell-in-Grow.view_is,
-    ap (λ (x : Triple). x.v) c.cell_of-cell.ensures) in
+    omega (
+      arith,
+      c.from-in-Grow.ensures,
+      ap (λ (x : Triple). x.v) c.cell-in-Grow.view_is,
+      ap (λ (x : Triple). x.v) c.cell_of-cell.ensures,
+    ) in
     let k : c.from-in-Grow-2.result ≡ kid.k =
-    omega (arith, c.from-in-Grow-2.ensures, ap (λ (x : Triple). x.k) c.cell-in-Grow.view_is,
-    ap (λ (x : Triple). x.k) c.cell_of-cell.ensures) in
+    omega (
+      arith,
+      c.from-in-Grow-2.ensures,
+      ap (λ (x : Triple). x.k) c.cell-in-Grow.view_is,
+      ap (λ (x : Triple). x.k) c.cell_of-cell.ensures,
+    ) in
     all-below kid.v kid.k _ _ (sym v)
     (blocks-of c.expansion_covers.ensures.covers (step_tree c.args.plan.now c.in-Grow.child) _ _ _
     c.cost_of-cost-in-Grow.ensures.derivation c.fill_from-in-Grow.ensures)
@@ -978,11 +1064,19 @@ fill_from-grow_each-requires-clause-larger t c =
     let kid = root_cell (step_tree c.args.plan.now c.in-Grow.child) in
     let sound = subst (λ r. IsSound (rule_of us ts r)) c.in-Grow.is c.rule.ensures.sound in
     let v : c.from-in-Grow.result ≡ kid.v =
-    omega (arith, c.from-in-Grow.ensures, ap (λ (x : Triple). x.v) c.cell-in-Grow.view_is,
-    ap (λ (x : Triple). x.v) c.cell_of-cell.ensures) in
+    omega (
+      arith,
+      c.from-in-Grow.ensures,
+      ap (λ (x : Triple). x.v) c.cell-in-Grow.view_is,
+      ap (λ (x : Triple). x.v) c.cell_of-cell.ensures,
+    ) in
     let k : c.from-in-Grow-2.result ≡ kid.k =
-    omega (arith, c.from-in-Grow-2.ensures, ap (λ (x : Triple). x.k) c.cell-in-Grow.view_is,
-    ap (λ (x : Triple). x.k) c.cell_of-cell.ensures) in
+    omega (
+      arith,
+      c.from-in-Grow-2.ensures,
+      ap (λ (x : Triple). x.k) c.cell-in-Grow.view_is,
+      ap (λ (x : Triple). x.k) c.cell_of-cell.ensures,
+    ) in
     all-sized kid.v kid.k _ _ (omega (arith, k))
     (blocks-of c.expansion_covers.ensures.covers (step_tree c.args.plan.now c.in-Grow.child) _ _ _
     c.cost_of-cost-in-Grow.ensures.derivation c.fill_from-in-Grow.ensures)
@@ -994,11 +1088,19 @@ fill_from-grow_each-requires-clause-room t c =
     let kid = root_cell (step_tree c.args.plan.now c.in-Grow.child) in
     let sound = subst (λ r. IsSound (rule_of us ts r)) c.in-Grow.is c.rule.ensures.sound in
     let v : c.from-in-Grow.result ≡ kid.v =
-    omega (arith, c.from-in-Grow.ensures, ap (λ (x : Triple). x.v) c.cell-in-Grow.view_is,
-    ap (λ (x : Triple). x.v) c.cell_of-cell.ensures) in
+    omega (
+      arith,
+      c.from-in-Grow.ensures,
+      ap (λ (x : Triple). x.v) c.cell-in-Grow.view_is,
+      ap (λ (x : Triple). x.v) c.cell_of-cell.ensures,
+    ) in
     let k : c.from-in-Grow-2.result ≡ kid.k =
-    omega (arith, c.from-in-Grow-2.ensures, ap (λ (x : Triple). x.k) c.cell-in-Grow.view_is,
-    ap (λ (x : Triple). x.k) c.cell_of-cell.ensures) in
+    omega (
+      arith,
+      c.from-in-Grow-2.ensures,
+      ap (λ (x : Triple). x.k) c.cell-in-Grow.view_is,
+      ap (λ (x : Triple). x.k) c.cell_of-cell.ensures,
+    ) in
     omega (arith, v, k, sound.condition)
 
 pub fill_from-grow_each-requires-clause-short : goal.fill_from-grow_each-requires-clause-short
@@ -1008,11 +1110,19 @@ fill_from-grow_each-requires-clause-short t c =
     let kid = root_cell (step_tree c.args.plan.now c.in-Grow.child) in
     let sound = subst (λ r. IsSound (rule_of us ts r)) c.in-Grow.is c.rule.ensures.sound in
     let v : c.from-in-Grow.result ≡ kid.v =
-    omega (arith, c.from-in-Grow.ensures, ap (λ (x : Triple). x.v) c.cell-in-Grow.view_is,
-    ap (λ (x : Triple). x.v) c.cell_of-cell.ensures) in
+    omega (
+      arith,
+      c.from-in-Grow.ensures,
+      ap (λ (x : Triple). x.v) c.cell-in-Grow.view_is,
+      ap (λ (x : Triple). x.v) c.cell_of-cell.ensures,
+    ) in
     let k : c.from-in-Grow-2.result ≡ kid.k =
-    omega (arith, c.from-in-Grow-2.ensures, ap (λ (x : Triple). x.k) c.cell-in-Grow.view_is,
-    ap (λ (x : Triple). x.k) c.cell_of-cell.ensures) in
+    omega (
+      arith,
+      c.from-in-Grow-2.ensures,
+      ap (λ (x : Triple). x.k) c.cell-in-Grow.view_is,
+      ap (λ (x : Triple). x.k) c.cell_of-cell.ensures,
+    ) in
     omega (arith, k, sound.in_limits)
 
 pub fill_from-fill_from-requires-in-Lower : goal.fill_from-fill_from-requires-in-Lower
@@ -1023,7 +1133,8 @@ fill_from-fill_from-requires-in-Lower t c =
     let d = step_tree p c.args.node in
     let n = length c.args.out.now in
     let unfolds = c.rule.ensures.unfolds ∙ ap (build us ts) c.in-Lower.is in
-    let kids = subst (λ r. AllByRecursion (λ j. j < c.args.node) (children_of us r)) c.in-Lower.is c.rule.ensures.children in
+    let kids = subst (λ r. AllByRecursion (λ j. j < c.args.node) (children_of us r)) c.in-Lower.is
+    c.rule.ensures.children in
     let same : tree_cost (step_tree p c.in-Lower.child) ≡ tree_cost d = sym (ap tree_cost unfolds) in
     let lower : 6 * c.in-Lower.child + 4 < t = omega (arith, c.decreases, kids.0) in
     (lower, (omega (arith, c.requires.there, kids.0), omega (arith, same, c.requires.fits)))
@@ -1076,8 +1187,19 @@ fill_from-fill_induced-requires t c =
     })
     (ap tree_source unfolds) in
     let sourced = subst IsSourced (sym unfolds) tt in
-    let lower : 6 * c.args.node + 3 < t = omega (arith, c.decreases) in
-    (lower, (c.requires.there, (sourced, (node, (grind (arith, c.is_empty.ensures, c.if-is_empty.false), c.requires.fits)))))
+    let lower : 6 * c.args.node + 3 < t = omega (arith, c.decreases) in (
+      lower,
+      (
+        c.requires.there,
+        (
+          sourced,
+          (
+            node,
+            (grind (arith, c.is_empty.ensures, c.if-is_empty.false), c.requires.fits),
+          ),
+        ),
+      ),
+    )
 
 pub fill_from-returns-in-One : goal.fill_from-returns-in-One
 fill_from-returns-in-One t c =
@@ -1107,7 +1229,8 @@ fill_from-returns-in-Runs t c =
     omega (arith, c.from-in-Runs.ensures, ap (λ (x : Triple). x.v) c.cell-in-Runs.view_is) in
     let k : c.from-in-Runs-2.result ≡ c.in-Runs.cell.k =
     omega (arith, c.from-in-Runs-2.ensures, ap (λ (x : Triple). x.k) c.cell-in-Runs.view_is) in
-    runs-from us ts d n c.args.i c.fill_runs.new.out c.in-Runs.cell c.from-in-Runs.result c.from-in-Runs-2.result unfolds v k
+    runs-from us ts d n c.args.i c.fill_runs.new.out c.in-Runs.cell c.from-in-Runs.result c.from-in-Runs-2.result
+    unfolds v k
     c.fill_runs.ensures
 
 pub fill_from-returns-in-All : goal.fill_from-returns-in-All
@@ -1182,8 +1305,12 @@ fill_from-returns-in-Drop t c =
     let n = length c.args.out.now in
     let unfolds = c.rule.ensures.unfolds ∙ ap (build us ts) c.in-Drop.is in
     let v : c.from-v.result - 1 ≡ (root_cell (step_tree p c.in-Drop.child)).v - 1 =
-    omega (arith, c.from-v.ensures, ap (λ (x : Triple). x.v) c.from-in-Drop.view_is,
-    ap (λ (x : Triple). x.v) c.cell_of.ensures) in
+    omega (
+      arith,
+      c.from-v.ensures,
+      ap (λ (x : Triple). x.v) c.from-in-Drop.view_is,
+      ap (λ (x : Triple). x.v) c.cell_of.ensures,
+    ) in
     drop-from us ts d n c.args.i c.drop_each.new.out c.in-Drop.child _ c.fill_from.new.out unfolds c.fill_from.ensures v
     c.drop_each.ensures
 
@@ -1209,8 +1336,12 @@ fill_from-returns-in-Grow t c =
     let n = length c.args.out.now in
     let unfolds = c.rule.ensures.unfolds ∙ ap (build us ts) c.in-Grow.is in
     let k : c.from-in-Grow-2.result + 1 ≡ (root_cell (step_tree p c.in-Grow.child)).k + 1 =
-    omega (arith, c.from-in-Grow-2.ensures, ap (λ (x : Triple). x.k) c.cell-in-Grow.view_is,
-    ap (λ (x : Triple). x.k) c.cell_of-cell.ensures) in
+    omega (
+      arith,
+      c.from-in-Grow-2.ensures,
+      ap (λ (x : Triple). x.k) c.cell-in-Grow.view_is,
+      ap (λ (x : Triple). x.k) c.cell_of-cell.ensures,
+    ) in
     grow-from us ts d n c.args.i c.grow_each.new.out c.in-Grow.child _ c.fill_from-in-Grow.new.out unfolds
     c.fill_from-in-Grow.ensures k c.grow_each.ensures
 

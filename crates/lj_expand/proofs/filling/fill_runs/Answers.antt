@@ -1,4 +1,4 @@
-use Rattle.std.proofs.Common.{◌≡◌, ◌+◌, ◌<◌, ◌∙◌, Some, ap, arith, length, sym}
+use Rattle.std.proofs.Common.{◌+◌, ◌<◌, ◌∙◌, Some, ap, arith, sym}
 use Rattle.std.proofs.lemmas.List.{length-set}
 use Rattle.lj_cover.specs.BlockLists.{ceil_div, run_blocks}
 use Rattle.lj_expand.proofs.Fills.{run-at}

@@ -7,5 +7,6 @@ pub loop-block-preserved : goal.loop-block-preserved
 loop-block-preserved c =
     let i = c.loop-block.block-index in
     ap (set c.loop-block.out i) c.unite.ensures
-    ∙ map_over_more (unite c.args.v1 c.args.first) c.args.out.now c.loop-block.out i (get_or c.loop-block.out i c.block-item.result)
+    ∙ map_over_more (unite c.args.v1 c.args.first) c.args.out.now c.loop-block.out i
+    (get_or c.loop-block.out i c.block-item.result)
     (omega arith) c.loop-block.invariant (ap (λ b. get_or c.loop-block.out i b) c.block-item.is)

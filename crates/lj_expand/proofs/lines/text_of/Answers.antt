@@ -1,6 +1,5 @@
 use Rattle.std.proofs.Common.{◌≡◌, ◌<◌, ◌∷◌, [], ◌∙◌, ap, arith, decimal, get_or, length, refl, subst, sym, take}
 use Rattle.std.proofs.lemmas.Fmt.{decimal_nonempty, length-decimal-le}
-use Rattle.lj_expand.specs.Lines.{IsText}
 use Rattle.lj_expand.proofs.Texts.{text-one, text-two}
 use Rattle.lj_expand.proofs.lines.text_of.Goals as goal
 

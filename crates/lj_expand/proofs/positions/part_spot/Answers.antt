@@ -1,6 +1,6 @@
-use Rattle.std.proofs.Common.{◌≡◌, ◌*◌, ◌+◌, ◌-◌, ◌∙◌, ◌<◌, ap, ap₂, arith, length}
+use Rattle.std.proofs.Common.{◌≡◌, ◌*◌, ◌<◌, ap₂, arith, length}
 use Rattle.lj_expand.specs.Positions.{part_at, part_cost}
-use Rattle.lj_expand.proofs.Joins.{factors-at, rest-all, rest-cost, rest-here, rest-next, rest-some}
+use Rattle.lj_expand.proofs.Joins.{factors-at, rest-all, rest-here, rest-next}
 use Rattle.lj_expand.proofs.positions.part_spot.Goals as goal
 
 pub loop-place-init : goal.loop-place-init

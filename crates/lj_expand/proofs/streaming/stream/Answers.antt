@@ -1,4 +1,4 @@
-use Rattle.std.proofs.Common.{◌≡◌, ◌<◌, ◌≤◌, ◌++◌, ◌+◌, ◌-◌, ◌∙◌, ap, arith, drop, length, min, subst, sym, take}
+use Rattle.std.proofs.Common.{◌+◌, ◌∙◌, arith, subst, sym, take}
 use Rattle.std.proofs.KnownBytes.{Appends-trans}
 use Rattle.lj_base.specs.Streams.{Appends}
 use Rattle.lj_blockfile.specs.BlockFiles.{blocks_text}

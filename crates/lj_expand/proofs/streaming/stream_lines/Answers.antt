@@ -1,8 +1,7 @@
-use Rattle.std.proofs.Common.{◌≡◌, ◌<◌, ◌++◌, ◌∷◌, [], ◌+◌, ◌∙◌, get_or, length, subst, sym, take}
+use Rattle.std.proofs.Common.{◌<◌, ◌+◌, ◌∙◌, length, subst, sym, take}
 use Rattle.std.proofs.KnownBytes.{Appends-trans}
 use Rattle.lj_base.specs.Streams.{Appends}
 use Rattle.lj_blockfile.specs.BlockFiles.{blocks_text}
-use Rattle.lj_blockfile.specs.BlockLines.{block_line}
 use Rattle.lj_expand.proofs.Texts.{OnErr-always, text-front, text-one_more}
 use Rattle.lj_expand.proofs.streaming.stream_lines.Goals as goal
 

@@ -1,4 +1,4 @@
-use Rattle.std.proofs.Common.{◌≡◌, ◌≤◌, ◌++◌, ◌+◌, ◌-◌, ◌∙◌, ap, append_assoc, arith, drop, length, min, sym, take}
+use Rattle.std.proofs.Common.{◌++◌, ◌∙◌, ap, append_assoc, arith, sym, take}
 use Rattle.lj_blockfile.specs.BlockFiles.{blocks_text}
 use Rattle.lj_cover.specs.Derivations.{expand}
 use Rattle.lj_deriv.specs.Nodes.{plan_tree}

@@ -1,4 +1,4 @@
-use Rattle.std.proofs.Common.{◌≤◌, ◌+◌, ◌++◌, ◌∷◌, [], ◌∙◌, ap, append_assoc, arith, get_or}
+use Rattle.std.proofs.Common.{◌++◌, ◌∷◌, [], ◌∙◌, ap, append_assoc, arith, get_or}
 use Rattle.lj_expand.proofs.Texts.{point-one, point-two}
 use Rattle.lj_expand.proofs.lines.Line.push_point.Goals as goal
 
