@@ -1,12 +1,13 @@
--- What follows from the way in which a check ends.
+-- What follows from the way in which a command ends.
 use Rattle.std.proofs.Common.{◌≡◌, ◌⊎◌, ◌∙◌, ℕ, ◌≤◌, ◌<◌, List, Option, None, Some, IfSome, length, sym, ap, subst}
 use Rattle.std.proofs.Common.{arith}
-use Rattle.std.proofs.Common.{◌++◌, append-nil, inl, inr, length-append}
+use Rattle.std.proofs.Common.{◌++◌, append-nil, inl, inr, length-append, ⊎_elim}
 use Rattle.std.proofs.lemmas.Option.{IfSome_then}
 use Rattle.lj_base.specs.Streams.{Appends, Consumes, IsAtEnd, Rose}
 use Rattle.lj_base.specs.declared.limits.TheConstants.{MAX_INPUT}
-use Rattle.lj_cli.specs.Ends.{Ends, HasOutput, Input, Output, Prints, too_large_text}
-use Rattle.lj_cli.specs.declared.status.TheConstants.{NO_MEMORY, TOO_LARGE}
+use Rattle.lj_cli.specs.Ends.{Ends, EndsUnread, EndsWithUsage, HasOutput, Input, Output, Prints, PrintsNothing}
+use Rattle.lj_cli.specs.Ends.{too_large_text, usage_text}
+use Rattle.lj_cli.specs.declared.status.TheConstants.{BAD_WORDS, DONE, NO_MEMORY, TOO_LARGE}
 
 -- no write failed: the text was printed with its status
 printed : (o : Output) (text : List ℕ) (status ended : ℕ) → Prints o text status ended
@@ -75,3 +76,15 @@ large output i o ended (inr (inr (inl h))) =
     everywhere i.left (LargeEnds i o ended) (λ all more quiet calm. absurd (quiet h.failed))
 large output i o ended (inr (inr (inr h))) =
     everywhere i.left (LargeEnds i o ended) (λ all more quiet calm. inr h.status)
+
+-- a text that needs no input is printed whole, unless memory runs out
+pub unread : (text : List ℕ) (i : Input) (o : Output) (ended : ℕ) → EndsUnread text i o ended
+    → (Rose o.faults o.faults_now → ⊥)
+    → ((ended ≡ DONE) × Appends o.written o.written_now text) ⊎ (ended ≡ NO_MEMORY)
+unread text i o ended h calm = ⊎_elim
+    (λ (out : Prints o text DONE ended). inl (printed o text DONE ended out calm))
+    (λ (none : PrintsNothing o ended). inr none.status) h.ends
+
+pub usage : (i : Input) (o : Output) (ended : ℕ) → EndsWithUsage i o ended → (Rose o.faults o.faults_now → ⊥)
+    → (ended ≡ BAD_WORDS) × Appends o.written o.written_now usage_text
+usage i o ended h calm = printed o usage_text BAD_WORDS ended h.printed calm

@@ -5,9 +5,6 @@ use Rattle.std.proofs.lemmas.List.{append-nil, append_assoc, length-append}
 use Rattle.std.proofs.Common.{drop}
 use Rattle.std.specs.List.{slice_get}
 use Rattle.lj_text.specs.Numbers.{number_of}
-use Rattle.std.proofs.Common.{codes}
-use Rattle.lj_cli.specs.GoodWords.{GoodWords, IsCheckCall}
-use Rattle.lj_cli.specs.declared.words.CheckCall.{CheckCall}
 use Rattle.lj_cli.specs.declared.given.Kind.{Kind}
 use Rattle.lj_cli.specs.Given.{Arguments, IsFew, all_numbers, given_by, joined, kind_of, nothing, with_json}
 use Rattle.lj_cli.specs.Given.{with_number, with_workers, word_gives}
@@ -117,10 +114,3 @@ value_refused g next words why = workers_refused g (number_of next) (given_by wo
 pub first_is : {T : Type 0} (xs : List T) (x : T) → Some x ≡ slice_get xs 0 → xs ≡ x ∷ drop 1 xs
 first_is [] x e = cc
 first_is (y ∷ xs) x e = let same : y ≡ x = cc in ap (λ z. z ∷ xs) same
-
--- the name of a call and what the words after it give
-pub good_words : (name : List ℕ) (words : List (List ℕ)) (g : Arguments) (call : Option CheckCall)
-    → given_by words ≡ Some g → name ≡ codes "check"
-    → IfSome call (IsCheckCall g) → IfSome call (GoodWords (name ∷ words))
-good_words name words g None given is call = tt
-good_words name words g (Some _) given is asks = (g, given, is, asks)

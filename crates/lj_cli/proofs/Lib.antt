@@ -1,4 +1,5 @@
 pub mod Joining
 pub mod Calls
+pub mod Building
 pub mod Ending
 pub mod OneOutput

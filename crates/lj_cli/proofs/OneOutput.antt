@@ -1,5 +1,5 @@
 -- The bytes of an input have one verdict for a cell, and so one text and one status.
-use Rattle.std.proofs.Common.{◌≡◌, ◌∙◌, ℕ, List, [], ◌∷◌, length, sym, ap, subst}
+use Rattle.std.proofs.Common.{◌≡◌, ◌∙◌, ℕ, List, length, sym, ap, subst}
 use Rattle.lj_base.specs.Blocks.{Covers}
 use Rattle.lj_base.specs.Cells.{Triple}
 use Rattle.lj_blockfile.specs.BlockFiles.{AreBlocksOf, IsBodyFault, IsInputFault}

@@ -1,9 +1,11 @@
--- Which words call for a check, and of what.
-use Rattle.std.specs.Prelude.{◌≡◌, ℕ, ◌≤◌, List, [], ◌∷◌, Some, map, codes, String, string_bytes}
+-- Which words call for which command.
+use Rattle.std.specs.Prelude.{◌≡◌, ℕ, ◌≤◌, Bool, if◌then◌else◌, List, [], ◌∷◌, Some, map, codes, String, string_bytes}
 use Rattle.std.specs.Global.{Global}
 use Rattle.lj_base.specs.Cells.{IsCell}
 use Rattle.lj_verify.specs.declared.limits.TheConstants.{MAX_WORKERS}
 use Rattle.lj_cli.specs.Given.{Arguments, given_by}
+use Rattle.lj_cli.specs.declared.words.Call.{Call}
+use Rattle.lj_cli.specs.declared.words.Call.TheVariants.{Check, Build, Gen}
 use Rattle.lj_cli.specs.declared.words.CheckCall.{CheckCall}
 
 abbrev pub texts : List (String Global) → List (List ℕ)
@@ -21,8 +23,27 @@ IsCheckCall g call = let cell = call.cell in
     (g.numbers ≡ cell.v ∷ cell.k ∷ cell.t ∷ []) × IsCell cell × (1 ≤ cell.k)
     × IsWorkers g.workers call.workers × (g.json ≡ 0)
 
--- these words call for this check
-abbrev pub GoodWords : List (List ℕ) → CheckCall → Type 0
+-- build [--json]
+abbrev pub IsBuildCall : Arguments → Bool → Type 0
+IsBuildCall g json = (g.numbers ≡ []) × (g.workers ≡ []) × (g.json ≡ (if json then 1 else 0))
+
+-- gen M
+abbrev pub IsGenCall : Arguments → ℕ → Type 0
+IsGenCall g m = (g.numbers ≡ m ∷ []) × (2 ≤ m) × (m ≤ 6) × (g.workers ≡ []) × (g.json ≡ 0)
+
+-- the command's name and what was given after it call for this
+abbrev pub IsCall : List ℕ → Arguments → Call → Type 0
+IsCall name g (Check call) = (name ≡ codes "check") × IsCheckCall g call
+IsCall name g (Build json) = (name ≡ codes "build") × IsBuildCall g json
+IsCall name g (Gen m) = (name ≡ codes "gen") × IsGenCall g m
+
+-- these words call for this command
+abbrev pub GoodWords : List (List ℕ) → Call → Type 0
 GoodWords [] call = ⊥
-GoodWords (name ∷ words) call =
-    (g : Arguments) × (given_by words ≡ Some g) × (name ≡ codes "check") × IsCheckCall g call
+GoodWords (name ∷ words) call = (g : Arguments) × (given_by words ≡ Some g) × IsCall name g call
+
+-- the numbers of a command are those that it takes
+abbrev pub TakesNumbers : Call → Type 0
+TakesNumbers (Check call) = (1 ≤ call.cell.k) × (1 ≤ call.workers) × (call.workers ≤ MAX_WORKERS)
+TakesNumbers (Build json) = Unit {0}
+TakesNumbers (Gen m) = (2 ≤ m) × (m ≤ 6)

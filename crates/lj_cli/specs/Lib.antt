@@ -2,4 +2,6 @@ pub mod Given
 pub mod GoodWords
 pub mod Verdicts
 pub mod CheckOutput
+pub mod BuildOutput
 pub mod Ends
+pub mod Running

@@ -1,20 +1,27 @@
-//! The program `ljcr`: checks whether the blocks of its input cover every set of points of a cell.
+//! The program `ljcr`: checks whether blocks cover every set of points of a cell, replies to the clients of a script
+//! with the least bounds that follow from their uploads, and writes generated scripts.
 #![tactic(auto)]
 
+mod build;
 mod check;
+mod generate;
 mod given;
 mod laws;
 mod prints;
+mod replies;
 #[cfg(test)]
 mod rows;
+mod script_faults;
 mod status;
 mod top;
 mod verdicts;
 mod words;
 
+pub use build::build_run;
 pub use check::check_run;
+pub use generate::gen_run;
 pub use given::{Given, read_given};
-pub use laws::{complete_law, output_law, words_law};
+pub use laws::{build_complete_law, build_output_law, complete_law, output_law, words_law};
 use lj_base::{StdSink, StdSource};
 pub use status::{
     BAD_WORDS, DONE, FAULTY, NO_MEMORY, NO_WORDS, READ_FAILED, TOO_LARGE, UNCOVERED, WRITE_FAILED,
@@ -23,7 +30,7 @@ use std::process::ExitCode;
 use std::{env, io};
 pub use top::ljcr;
 pub use verdicts::Verdict;
-pub use words::{CheckCall, read_words};
+pub use words::{Call, CheckCall, read_words};
 
 fn main(rt: HostRuntime) -> ExitCode {
     let Ok(args) = env::args(&rt) else {

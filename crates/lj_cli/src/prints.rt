@@ -20,9 +20,13 @@ pub(crate) fn print_too_large<K: Sink>(out: &mut K) -> u8
     print(out, b"fault input too large\n", TOO_LARGE)
 }
 
-// Prints which words call for a command.
+// Prints which words call for which command.
 pub(crate) fn print_usage<K: Sink>(out: &mut K) -> u8
     ensures { Prints (output_of K.written K.faults out.old out.new) usage_text BAD_WORDS result }
 {
-    print(out, b"usage: ljcr check V K T [--workers N]\n", BAD_WORDS)
+    print(
+        out,
+        b"usage: ljcr check V K T [--workers N] | build [--json] | gen M\n",
+        BAD_WORDS,
+    )
 }

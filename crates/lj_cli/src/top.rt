@@ -1,10 +1,15 @@
+ghost use Rattle.lj_gen.specs.Generated.{gen_text};
+ghost use Rattle.lj_cli.specs.BuildOutput.{IsBuildCommandOutput};
 ghost use Rattle.lj_cli.specs.CheckOutput.{IsCheckOutput};
-ghost use Rattle.lj_cli.specs.Ends.{Ends, EndsWithUsage, input_of, output_of};
-ghost use Rattle.lj_cli.specs.GoodWords.{GoodWords, texts};
+ghost use Rattle.lj_cli.specs.Ends.{Ends, EndsUnread, EndsWithUsage, input_of, output_of};
+ghost use Rattle.lj_cli.specs.GoodWords.{GoodWords, TakesNumbers, texts};
+ghost use Rattle.lj_cli.specs.Running.{EndsAs};
 
+use crate::build::build_run;
 use crate::check::check_run;
+use crate::generate::gen_run;
 use crate::prints::print_usage;
-use crate::words::read_words;
+use crate::words::{Call, read_words};
 use lj_base::{Sink, Source};
 use std::alloc::Global;
 use std::thread::Threads;
@@ -18,8 +23,18 @@ pub fn ljcr<R: Threads + Sync, S: Source, K: Sink>(
     out: &mut K,
 ) -> u8
     // Words that call for a check end as a check of that cell ends.
-    ensures check { (call : _) → GoodWords (texts words.now) call →
+    ensures check { (call : _) → GoodWords (texts words.now) (Call.Check call) →
         Ends (IsCheckOutput call.cell) (input_of S.left S.faults input.old input.new)
+        (output_of K.written K.faults out.old out.new) result }
+
+    // Words that call for a build end as a build ends, with its report as JSON where that is asked for.
+    ensures build { (json : _) → GoodWords (texts words.now) (Call.Build json) →
+        Ends (IsBuildCommandOutput json) (input_of S.left S.faults input.old input.new)
+        (output_of K.written K.faults out.old out.new) result }
+
+    // Words that call for a generated script end with it, and nothing is read.
+    ensures generated { (m : _) → GoodWords (texts words.now) (Call.Gen m) →
+        EndsUnread (gen_text m) (input_of S.left S.faults input.old input.new)
         (output_of K.written K.faults out.old out.new) result }
 
     // Words that call for no command end with the usage line.
@@ -28,7 +43,26 @@ pub fn ljcr<R: Threads + Sync, S: Source, K: Sink>(
         result }
 {
     match read_words(words) {
-        Some(call) => check_run(rt, alloc, call.cell, call.workers, input, out),
+        Some(call) => run_call(rt, alloc, call, input, out),
         None => print_usage(out),
+    }
+}
+
+// Runs a command.
+fn run_call<R: Threads + Sync, S: Source, K: Sink>(
+    rt: &R,
+    alloc: Global,
+    call: Call,
+    input: &mut S,
+    out: &mut K,
+) -> u8
+    requires { TakesNumbers call }
+    ensures { EndsAs call (input_of S.left S.faults input.old input.new)
+        (output_of K.written K.faults out.old out.new) result }
+{
+    match call {
+        Call::Check(check) => check_run(rt, alloc, check.cell, check.workers, input, out),
+        Call::Build { json } => build_run(rt, alloc, json, input, out),
+        Call::Gen { m } => gen_run(alloc, m, out),
     }
 }

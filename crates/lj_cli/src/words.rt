@@ -1,5 +1,5 @@
 ghost use Rattle.std.specs.Prelude.{IfNone, IfSome};
-ghost use Rattle.lj_cli.specs.GoodWords.{GoodWords, IsCheckCall, texts};
+ghost use Rattle.lj_cli.specs.GoodWords.{GoodWords, IsBuildCall, IsCall, IsCheckCall, IsGenCall, texts};
 
 use crate::given::{Given, read_given};
 use lj_base::Cell;
@@ -12,15 +12,40 @@ pub struct CheckCall {
     pub workers: u64,
 }
 
+/// A command with its numbers and flags.
+#[derive(Clone, Copy, Debug, PartialEq, Eq)]
+pub enum Call {
+    Check(CheckCall),
+    /// Builds the script of the input; its report is JSON or text.
+    Build { json: bool },
+    /// Prints the generated script of `2 ^ m` points.
+    Gen { m: u64 },
+}
+
 /// The command that the words after the program's name call for.
-pub fn read_words(words: &[String]) -> Option<CheckCall>
+pub fn read_words(words: &[String]) -> Option<Call>
     ensures good { IfSome result (GoodWords (texts words.now)) }
     ensures bad { IfNone result ((call : _) → GoodWords (texts words.now) call → ⊥) }
 {
     let (name, rest) = words.split_first()?;
     let given = read_given(rest)?;
-    if name.as_str() == "check" {
-        check_call(&given)
+    call_of(name.as_str(), &given)
+}
+
+// The call of a command by its name, with what the words after it give.
+fn call_of(name: &str, given: &Given) -> Option<Call>
+    ensures good { IfSome result (IsCall name.now given.now) }
+    ensures bad { IfNone result ((call : _) → IsCall name.now given.now call → ⊥) }
+{
+    if name == "check" {
+        let call = check_call(given)?;
+        Some(Call::Check(call))
+    } else if name == "build" {
+        let json = build_call(given)?;
+        Some(Call::Build { json })
+    } else if name == "gen" {
+        let m = gen_call(given)?;
+        Some(Call::Gen { m })
     } else {
         None
     }
@@ -38,6 +63,36 @@ fn check_call(given: &Given) -> Option<CheckCall>
     let workers = given.workers().unwrap_or(1);
     if cell.k >= 1 && 1 <= workers && workers <= MAX_WORKERS && !given.json() {
         Some(CheckCall { cell, workers })
+    } else {
+        None
+    }
+}
+
+// build [--json]: whether JSON is asked for.
+fn build_call(given: &Given) -> Option<bool>
+    ensures good { IfSome result (IsBuildCall given.now) }
+    ensures bad { IfNone result ((json : _) → IsBuildCall given.now json → ⊥) }
+{
+    let [] = given.numbers() else {
+        return None;
+    };
+    if given.workers().is_none() {
+        Some(given.json())
+    } else {
+        None
+    }
+}
+
+// gen M
+fn gen_call(given: &Given) -> Option<u64>
+    ensures good { IfSome result (IsGenCall given.now) }
+    ensures bad { IfNone result ((m : _) → IsGenCall given.now m → ⊥) }
+{
+    let [m] = given.numbers() else {
+        return None;
+    };
+    if 2 <= *m && *m <= 6 && given.workers().is_none() && !given.json() {
+        Some(*m)
     } else {
         None
     }

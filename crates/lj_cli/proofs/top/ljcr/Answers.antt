@@ -1,10 +1,27 @@
-use Rattle.std.proofs.Common.{◌≡◌, sym}
+use Rattle.std.proofs.Common.{◌≡◌, rules}
 use Rattle.lj_cli.specs.GoodWords.{texts}
-use Rattle.lj_cli.proofs.Calls.{one_call}
+use Rattle.lj_cli.specs.declared.words.Call.TheVariants.{Check, Build, Gen}
+use Rattle.lj_cli.proofs.Calls.{one_call, takes_numbers}
 use Rattle.lj_cli.proofs.top.ljcr.Goals as goal
+
+pub run_call-requires : goal.run_call-requires
+run_call-requires g c =
+    (search rules, takes_numbers (texts c.args.words.now) c.in-Some.call c.in-Some.ensures.good)
 
 pub returns-in-Some-clause-check : goal.returns-in-Some-clause-check
 returns-in-Some-clause-check g c call good =
-    let same : call ≡ c.in-Some.call = sym (one_call
-    (texts c.args.words.now) c.in-Some.call call c.in-Some.ensures.good good) in
-    rw same c.check_run.ensures
+    let same : c.in-Some.call ≡ Check call = one_call
+    (texts c.args.words.now) c.in-Some.call (Check call) c.in-Some.ensures.good good in
+    rw same at c.run_call.ensures
+
+pub returns-in-Some-clause-build : goal.returns-in-Some-clause-build
+returns-in-Some-clause-build g c json good =
+    let same : c.in-Some.call ≡ Build json = one_call
+    (texts c.args.words.now) c.in-Some.call (Build json) c.in-Some.ensures.good good in
+    rw same at c.run_call.ensures
+
+pub returns-in-Some-clause-generated : goal.returns-in-Some-clause-generated
+returns-in-Some-clause-generated g c m good =
+    let same : c.in-Some.call ≡ Gen m = one_call
+    (texts c.args.words.now) c.in-Some.call (Gen m) c.in-Some.ensures.good good in
+    rw same at c.run_call.ensures

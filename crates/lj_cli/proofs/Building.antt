@@ -1,0 +1,190 @@
+-- The text of a build: the replies and the report.
+use Rattle.std.proofs.Common.{◌≡◌, ◌∙◌, ℕ, suc, ◌+◌, ◌≤◌, ◌<◌, Bool, List, [], ◌∷◌, ◌++◌, ◌⊎◌, arith, drop, get_or}
+use Rattle.std.proofs.Common.{length, map, take, refl, sym, ap, ap₂, subst, append_assoc, append-nil, drop-cons}
+use Rattle.std.proofs.Common.{IfSome, inl, inr, min, ⊎_elim}
+use Rattle.std.proofs.lemmas.Bool.{cases_lt}
+use Rattle.std.proofs.lemmas.List.{drop_all, map-append, take_all, take_more}
+use Rattle.std.proofs.lemmas.Option.{IfSome_then}
+use Rattle.lj_base.specs.Bounds.{at_cell}
+use Rattle.lj_base.specs.Cells.{Triple}
+use Rattle.lj_base.specs.Frames.{Top, index_of, size_of}
+use Rattle.lj_base.specs.Streams.{Appends, Rose}
+use Rattle.lj_base.specs.declared.limits.TheConstants.{MAX_INPUT}
+use Rattle.lj_cover.specs.Derivations.{IsLeast}
+use Rattle.lj_cover.specs.Rules.{Upload}
+use Rattle.lj_script.specs.Faults.{IsScriptFault}
+use Rattle.lj_script.specs.Scripts.{IsScript}
+use Rattle.lj_script.specs.Values.{ScriptValue, SectionValue}
+use Rattle.lj_script.specs.declared.faults.ScriptFault.{ScriptFault}
+use Rattle.lj_script.specs.declared.faults.ScriptFault.TheVariants.{Memory}
+use Rattle.lj_session.specs.declared.ends.SessionEnd.{SessionEnd}
+use Rattle.lj_table.specs.Tables.{Contents, state_of}
+use Rattle.lj_build.specs.Building.{IsWholeBuilt, Rests}
+use Rattle.lj_build.specs.Runs.{AreLeastBounds, IsBuildOutput, client_line, report_of, sections_text}
+use Rattle.lj_build.specs.Runs.{uploads_of}
+use Rattle.lj_cli.specs.BuildOutput.{IsBuildCommandOutput, replies_text, script_fault_line}
+use Rattle.lj_cli.specs.Ends.{Ends, HasOutput, Input, Output}
+use Rattle.lj_cli.specs.Running.{HasBuilt}
+use Rattle.lj_cli.specs.declared.status.TheConstants.{DONE, FAULTY, NO_MEMORY}
+use Rattle.lj_cli.proofs.Ending.{small}
+
+abbrev pub names_of : List SectionValue → List (List ℕ)
+names_of sections = map (λ (s : SectionValue). s.name) sections
+
+-- one name more
+pub names_more : (sections : List SectionValue) (i : ℕ) (section : SectionValue) (before now : List (List ℕ))
+    → i < length sections → section ≡ get_or sections i section → before ≡ names_of (take i sections)
+    → now ≡ before ++ section.name ∷ [] → now ≡ names_of (take (i + 1) sections)
+names_more sections i section before now inside is h j =
+    let more : take (i + 1) sections ≡ take i sections ++ section ∷ [] =
+    take_more sections i section inside ∙ ap (λ (s : SectionValue). take i sections ++ s ∷ []) (sym is) in
+    j ∙ ap (λ ns. ns ++ section.name ∷ []) h
+    ∙ sym (map-append (λ (s : SectionValue). s.name) (take i sections) (section ∷ []))
+    ∙ sym (ap names_of more)
+
+-- the replies of the section at a place
+pub replies_more : (names : List (List ℕ)) (ends : List SessionEnd) (i : ℕ) (name : List ℕ) (e : SessionEnd)
+    (before now whole : List ℕ) → i < length names → i < length ends → name ≡ get_or names i name → e ≡ get_or ends i e
+    → before ++ replies_text (drop i names) (drop i ends) ≡ whole → now ≡ before ++ (client_line name ++ e.replies)
+    → now ++ replies_text (drop (i + 1) names) (drop (i + 1) ends) ≡ whole
+replies_more names ends i name e before now whole some inside is there h j =
+    let next : i + 1 ≡ suc i = omega arith in
+    let first : drop i names ≡ name ∷ drop (suc i) names =
+    drop-cons names i name some ∙ ap (λ n. n ∷ drop (suc i) names) (sym is) in
+    let last : drop i ends ≡ e ∷ drop (suc i) ends =
+    drop-cons ends i e inside ∙ ap (λ (x : SessionEnd). x ∷ drop (suc i) ends) (sym there) in
+    let rest : List ℕ = replies_text (drop (suc i) names) (drop (suc i) ends) in
+    let shown : now ++ rest ≡ whole =
+    ap (λ text. text ++ rest) j ∙ append_assoc before (client_line name ++ e.replies) rest
+    ∙ ap₂ (λ (ns : List (List ℕ)) (es : List SessionEnd). before ++ replies_text ns es) (sym first) (sym last) ∙ h in
+    subst (λ n. now ++ replies_text (drop n names) (drop n ends) ≡ whole) (sym next) shown
+
+no_names : (ends : List SessionEnd) → replies_text [] ends ≡ []
+no_names [] = refl
+no_names (e ∷ ends) = refl
+
+no_ends : (names : List (List ℕ)) → replies_text names [] ≡ []
+no_ends names = refl
+
+-- where one of the lists has ended nothing is left
+nothing_left : (names : List (List ℕ)) (ends : List SessionEnd) (i : ℕ) → i ≡ min (length names) (length ends)
+    → replies_text (drop i names) (drop i ends) ≡ []
+nothing_left names ends i end = ⊎_elim
+    (λ (less : length ends < length names).
+    ap (λ (es : List SessionEnd). replies_text (drop i names) es) (drop_all i ends (omega (arith, end, less)))
+    ∙ no_ends (drop i names))
+    (λ (more : length names ≤ length ends).
+    ap (λ (ns : List (List ℕ)). replies_text ns (drop i ends)) (drop_all i names (omega (arith, end, more)))
+    ∙ no_names (drop i ends))
+    (cases_lt (length ends) (length names))
+
+pub replies_done : (names : List (List ℕ)) (ends : List SessionEnd) (i : ℕ) (now whole : List ℕ)
+    → i ≡ min (length names) (length ends) → now ++ replies_text (drop i names) (drop i ends) ≡ whole → now ≡ whole
+replies_done names ends i now whole end h =
+    sym (append-nil now) ∙ ap (λ text. now ++ text) (sym (nothing_left names ends i end)) ∙ h
+
+-- the replies by the names are those by the sections
+sections_replies : (sections : List SectionValue) (ends : List SessionEnd)
+    → replies_text (names_of sections) ends ≡ sections_text sections ends
+sections_replies [] [] = refl
+sections_replies [] (e ∷ ends) = refl
+sections_replies (s ∷ sections) [] = refl
+sections_replies (s ∷ sections) (e ∷ ends) =
+    append_assoc (client_line s.name) e.replies (replies_text (names_of sections) ends)
+    ∙ ap (λ text. client_line s.name ++ (e.replies ++ text)) (sections_replies sections ends)
+
+-- one bound more
+pub bounds_more : (t : Contents) (f : Top) (i : ℕ) (c : Triple) (b : ℕ) (before now : List ℕ)
+    → f ≡ t.arena.frame → index_of f c ≡ i → b ≡ (state_of t).bounds c → i < length t.bounds
+    → before ≡ take i t.bounds → now ≡ before ++ b ∷ [] → now ≡ take (i + 1) t.bounds
+bounds_more t f i c b before now frame place is inside h j =
+    let index : index_of t.arena.frame c ≡ i = ap (λ (x : Top). index_of x c) (sym frame) ∙ place in
+    let value : b ≡ get_or t.bounds i 0 = is ∙ ap (λ n. get_or t.bounds n 0) index in
+    j ∙ ap₂ (λ (ns : List ℕ) (n : ℕ). ns ++ n ∷ []) h value ∙ sym (take_more t.bounds i 0 inside)
+
+pub bounds_done : (all : List ℕ) (i : ℕ) (now : List ℕ) → length all ≤ i → now ≡ take i all → now ≡ all
+bounds_done all i now done h = h ∙ take_all i all done
+
+-- the bounds of a table at rest are the least
+least_bounds : (f : Top) (us : List Upload) (t : Contents) → Rests f us t → length t.bounds ≡ size_of t.arena.frame
+    → AreLeastBounds f us t.bounds
+least_bounds f us t rests count = record {
+  count = count ∙ ap (λ (x : Top). size_of x) rests.frame;
+  least = λ c inside.
+      let least = rests.least c (rw rests.frame inside) in
+      subst (λ (x : Top × List Upload). IsLeast x.0 x.1 c (at_cell x.0 t.bounds c))
+      (λ i. (rests.frame i, rests.uploads_are i)) least;
+}
+
+pub whole_text : (script : ScriptValue) (json : Bool) (names : List (List ℕ)) (ends : List SessionEnd) (t : Contents)
+    (lent : List (List ℕ)) (all : List SessionEnd) (start middle whole : List ℕ) → IsWholeBuilt script ends t
+    → length t.bounds ≡ size_of t.arena.frame → names ≡ names_of script.clients → lent ≡ names → all ≡ ends
+    → start ≡ [] → middle ≡ start ++ replies_text lent all → whole ≡ middle ++ report_of t.arena.frame json t.bounds
+    → IsBuildOutput script json whole
+whole_text script json names ends t lent all start middle whole built count is same items none h j =
+    let report = report_of script.frame json t.bounds in
+    let clients : lent ≡ names_of script.clients = same ∙ is in
+    let replies : middle ≡ sections_text script.clients ends =
+    h ∙ ap (λ (text : List ℕ). text ++ replies_text lent all) none
+    ∙ ap₂ (λ (ns : List (List ℕ)) (es : List SessionEnd). replies_text ns es) clients items
+    ∙ sections_replies script.clients ends in (
+      ends,
+      report,
+      built.built,
+      (t.bounds, least_bounds script.frame (uploads_of ends) t built.rests count, refl),
+      j ∙ ap₂ (λ (text : List ℕ) (f : Top). text ++ report_of f json t.bounds) replies built.rests.frame,
+    )
+
+-- the line of a fault that is one of the bytes
+pub faulted : (json : Bool) (bytes line : List ℕ) (fault : ScriptFault)
+    → (fault ≡ Memory) ⊎ IsScriptFault bytes fault → (fault ≡ Memory → ⊥) → line ≡ script_fault_line fault
+    → IsBuildCommandOutput json bytes line FAULTY
+faulted json bytes line fault (inl e) other is = absurd (other e)
+faulted json bytes line fault (inr h) other is = inr (record { fault = fault; found = h; line = is; faulty = refl })
+
+module _ (scripts : (bytes : List ℕ) (a b : ScriptValue) → IsScript bytes a → IsScript bytes b → a ≡ b)
+    (faults : (bytes : List ℕ) (f g : ScriptFault) → IsScriptFault bytes f → IsScriptFault bytes g → f ≡ g)
+    (either : (bytes : List ℕ) (script : ScriptValue) (fault : ScriptFault) → IsScript bytes script
+    → IsScriptFault bytes fault → ⊥) where
+  -- bytes that spell a script have its output
+  pub of_script : (json : Bool) (bytes text : List ℕ) (status : ℕ) (script : ScriptValue)
+      → IsBuildCommandOutput json bytes text status → IsScript bytes script
+      → (status ≡ DONE) × IsBuildOutput script json text
+  of_script json bytes text status script (inl h) is = (
+    h.done,
+    subst (λ (s : ScriptValue). IsBuildOutput s json text) (scripts bytes h.script script h.spelled is)
+        h.output,
+  )
+  of_script json bytes text status script (inr h) is = absurd (either bytes script h.fault is h.found)
+
+  -- bytes with a fault have its line
+  pub of_fault : (json : Bool) (bytes text : List ℕ) (status : ℕ) (fault : ScriptFault)
+      → IsBuildCommandOutput json bytes text status → IsScriptFault bytes fault
+      → (status ≡ FAULTY) × (text ≡ script_fault_line fault)
+  of_fault json bytes text status fault (inl h) is = absurd (either bytes h.script fault h.spelled is)
+  of_fault json bytes text status fault (inr h) is =
+      (h.faulty, h.line ∙ ap (λ (f : ScriptFault). script_fault_line f) (faults bytes h.fault fault h.found is))
+
+  -- a build of a script that its source reports ends well, unless memory runs out
+  pub script_ends : (json : Bool) (i : Input) (o : Output) (ended : ℕ) (script : ScriptValue)
+      → Ends (IsBuildCommandOutput json) i o ended → IfSome i.left (λ all. length all ≤ MAX_INPUT → IsScript all script
+      → (Rose i.faults i.faults_now → ⊥) → (Rose o.faults o.faults_now → ⊥)
+      → HasBuilt script json o ended ⊎ (ended ≡ NO_MEMORY))
+  script_ends json i o ended script h =
+      IfSome_then i.left (small (IsBuildCommandOutput json) i o ended h) (λ all ends few is quiet calm. ⊎_elim
+      (λ (done : HasOutput (IsBuildCommandOutput json) all o ended).
+      let built = of_script json all done.0 ended script done.1 is in inl (done.0, built.0, built.1, done.2))
+      (λ (ran_out : ended ≡ NO_MEMORY). inr ran_out) (ends few quiet calm))
+
+  -- and one of bytes with a fault has the fault's line
+  pub fault_ends : (json : Bool) (i : Input) (o : Output) (ended : ℕ) (fault : ScriptFault)
+      → Ends (IsBuildCommandOutput json) i o ended
+      → IfSome i.left (λ all. length all ≤ MAX_INPUT → IsScriptFault all fault
+      → (Rose i.faults i.faults_now → ⊥) → (Rose o.faults o.faults_now → ⊥)
+      → ((ended ≡ FAULTY) × Appends o.written o.written_now (script_fault_line fault)) ⊎ (ended ≡ NO_MEMORY))
+  fault_ends json i o ended fault h =
+      IfSome_then i.left (small (IsBuildCommandOutput json) i o ended h) (λ all ends few is quiet calm. ⊎_elim
+      (λ (done : HasOutput (IsBuildCommandOutput json) all o ended).
+      let line = of_fault json all done.0 ended fault done.1 is in
+      inl (line.0, subst (λ (text : List ℕ). Appends o.written o.written_now text) line.1 done.2))
+      (λ (ran_out : ended ≡ NO_MEMORY). inr ran_out) (ends few quiet calm))

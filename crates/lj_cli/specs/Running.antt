@@ -1,0 +1,22 @@
+-- How the run of each command ends, and what was printed of a script.
+use Rattle.std.specs.Prelude.{◌≡◌, ℕ, Bool, List}
+use Rattle.lj_base.specs.Streams.{Appends}
+use Rattle.lj_build.specs.Runs.{IsBuildOutput}
+use Rattle.lj_gen.specs.Generated.{gen_text}
+use Rattle.lj_script.specs.Values.{ScriptValue}
+use Rattle.lj_cli.specs.BuildOutput.{IsBuildCommandOutput}
+use Rattle.lj_cli.specs.CheckOutput.{IsCheckOutput}
+use Rattle.lj_cli.specs.Ends.{Ends, EndsUnread, Input, Output}
+use Rattle.lj_cli.specs.declared.status.TheConstants.{DONE}
+use Rattle.lj_cli.specs.declared.words.Call.{Call}
+use Rattle.lj_cli.specs.declared.words.Call.TheVariants.{Check, Build, Gen}
+
+abbrev pub EndsAs : Call → Input → Output → ℕ → Type 0
+EndsAs (Check call) i o ended = Ends (IsCheckOutput call.cell) i o ended
+EndsAs (Build json) i o ended = Ends (IsBuildCommandOutput json) i o ended
+EndsAs (Gen m) i o ended = EndsUnread (gen_text m) i o ended
+
+-- a text that the script comes to was written whole, and the run ended well
+abbrev pub HasBuilt : ScriptValue → Bool → Output → ℕ → Type 0
+HasBuilt script json o ended =
+    (text : List ℕ) × (ended ≡ DONE) × IsBuildOutput script json text × Appends o.written o.written_now text
