@@ -12,7 +12,8 @@ use Rattle.lj_verify.specs.Marks.{IsRankAmong}
 use Rattle.lj_verify.specs.SetLaws.{SetLaws}
 use Rattle.lj_excess.specs.Changes.{Changed, shifted}
 use Rattle.lj_excess.specs.Multiplicities.{contains_set, multiplicities, multiplicity, Tally}
-use Rattle.lj_excess.proofs.ContainedSets.{multiplicity-cons, multiplicity-joined, multiplicity-most, one_for, one_for-no}
+use Rattle.lj_excess.proofs.ContainedSets.{multiplicity-cons, multiplicity-joined, multiplicity-most}
+use Rattle.lj_excess.proofs.ContainedSets.{one_for, one_for-no}
 use Rattle.lj_excess.proofs.ContainedSets.{one_for-yes}
 use Rattle.lj_excess.proofs.SetRanks.{length-multiplicities, multiplicities-at, multiplicities-at_rank, one_set}
 

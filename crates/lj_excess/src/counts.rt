@@ -32,7 +32,8 @@ impl Model for Counts {
 
     ghost view = { λ c. record { cell = c.cell; counts = c.counts.items } };
 
-    ghost invariant = { λ c. (length c.counts.items ≡ choose c.cell.v c.cell.t) × (length c.counts.items ≤ MAX_COUNTS) };
+    ghost invariant = { λ c.
+        (length c.counts.items ≡ choose c.cell.v c.cell.t) × (length c.counts.items ≤ MAX_COUNTS) };
 }
 
 impl Counts {

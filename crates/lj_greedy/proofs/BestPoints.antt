@@ -72,7 +72,8 @@ missing lo v (x ∷ xs) h room =
       lo,
       omega arith,
       omega (arith, room),
-      ⊎_elim (λ e. absurd (other (sym e))) (λ has. let above = Has-from (suc x) v lo xs h.2 has in omega (arith, above, from)),
+      ⊎_elim (λ e. absurd (other (sym e))) (λ has. let above = Has-from (suc x) v lo xs h.2 has in omega
+          (arith, above, from)),
     ))
     (cases_eq lo x)
 
@@ -150,7 +151,14 @@ best_keeps points number b p best least less (inr some) =
     ∙ cond-false (ltb (number best_of_ps) (number p)) p best_of_ps (le-ltb (number best_of_ps) (number p) most)) in
     let long : 0 < length (lacking (p + 1) b) =
     subst (λ ps. 0 < length ps) (sym now) (omega (arith, length_push (lacking p b) p)) in
-    inr (least_is, value ∙ ap (best_point number) (sym now), long, (let below = some.3 in omega (arith, below)), some.4))
+    inr (
+      least_is,
+      value ∙ ap (best_point number) (sym now),
+      long,
+      (let below = some.3 in omega
+          (arith, below)),
+      some.4,
+    ))
     (cases_Bool (has_point b p))
 
 -- the search has gone through all points

@@ -24,7 +24,8 @@ with_point-later p x xs most = cond-false (ltb p x) (p ∷ x ∷ xs) (x ∷ with
 -- the point is another than the first
 other_first : (p x : ℕ) (xs : List ℕ) → (Has (x ∷ xs) p → ⊥) → x ≤ p → x < p
 other_first p x xs lacks most =
-    ⊎_elim (λ less. less) (λ over. let same : x ≡ p = omega (arith, most, over) in absurd (lacks (inl same))) (cases_lt x p)
+    ⊎_elim (λ less. less) (λ over. let same : x ≡ p = omega (arith, most, over) in absurd (lacks (inl same)))
+    (cases_lt x p)
 
 pub Ascends-with_point : (lo v p : ℕ) (xs : List ℕ) → lo ≤ p → p < v → Ascends lo v xs → (Has xs p → ⊥)
     → Ascends lo v (with_point p xs)

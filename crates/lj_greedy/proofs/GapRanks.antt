@@ -143,7 +143,8 @@ gap_completes points counts v j from p row h low high =
     let free : has_point row p ≡ false = lacks_point points row p (gap_lacks v j p row inside) in
     let test : completes (is_zero_at counts) p row ≡ is_zero_at counts (with_point p row) =
     ap (λ t. not t && is_zero_at counts (with_point p row)) free in
-    let one : completed (is_zero_at counts) p (row ∷ []) ≡ cond (completes (is_zero_at counts) p row) 1 0 = omega arith in
+    let one : completed (is_zero_at counts) p (row ∷ []) ≡ cond (completes
+    (is_zero_at counts) p row) 1 0 = omega arith in
     one ∙ ap (λ t. cond t 1 0) test ∙ ap (one_at_zero counts) (gap_rank v j p row h.within inside)
 
 -- the rank is below the number of sets

@@ -19,7 +19,8 @@ use Rattle.lj_excess.specs.Multiplicities.{multiplicities, multiplicity}
 use Rattle.lj_rank.specs.Ranks.{RankLaws, rank_of}
 use Rattle.lj_greedy.specs.Choices.{best_point, lacking, sets_of, with_point}
 use Rattle.lj_greedy.specs.Gains.{AreGains, is_zero_at}
-use Rattle.lj_greedy.specs.Greedy.{gain, greedy_block, greedy_list, greedy_step, greedy_steps, grown, is_open, with_block}
+use Rattle.lj_greedy.specs.Greedy.{gain, greedy_block, greedy_list, greedy_step, greedy_steps, grown}
+use Rattle.lj_greedy.specs.Greedy.{is_open, with_block}
 use Rattle.lj_greedy.proofs.BestPoints.{best_point-holds, best_point-same, each_lacking, lacking_some, missing}
 use Rattle.lj_greedy.proofs.ChosenSets.{Ascends-with_point, Has-with_point, IsChosen, count-each, each_is_chosen}
 use Rattle.lj_greedy.proofs.ChosenSets.{length-with_point}
@@ -283,11 +284,13 @@ grown_whole points o c (suc n) i b h room =
     let size = h.1 in
     let free = best_lacks points (gain o c.t b) c.v b h.0 (omega (arith, room, size)) in
     let larger : List ℕ = with_point best b in
-    let rest = grown_whole points o c n (i + 1) larger (block_step c.v i best b h free.0 free.1) (omega (arith, room)) in
+    let rest = grown_whole points o c n (i + 1) larger (block_step c.v i best b h free.0 free.1) (omega
+    (arith, room)) in
     let last : i + 1 + n ≡ i + suc n = omega arith in
     let whole : List ℕ = grown o c n larger in (
       subst (λ m. IsBlock c.v m whole) last rest.0,
-      Within-larger b larger whole (λ p has. Has-from_Within larger whole rest.1 p has) (within_step best b b (within_self b)),
+      Within-larger b larger whole (λ p has. Has-from_Within larger whole rest.1 p has) (within_step best b b
+          (within_self b)),
     )
 
 pub block_whole : PointsAreTested → (o : List ℕ → Bool) (c : Triple) (s : List ℕ) → c.t ≤ c.k → c.k ≤ c.v

@@ -13,7 +13,8 @@ use Rattle.lj_cover.specs.Operations.{has_point}
 use Rattle.lj_greedy.specs.Choices.{sets_of, with_point}
 use Rattle.lj_greedy.specs.Gains.{Adds, AreGains, Fits, completed, completes, rows_after, rows_of, rows_with}
 use Rattle.lj_greedy.specs.Greedy.{gain}
-use Rattle.lj_greedy.proofs.ChosenSets.{Has-with_point, IsChosen, count-each, count-front, count-later, count-map, count-none}
+use Rattle.lj_greedy.proofs.ChosenSets.{Has-with_point, IsChosen, count-each, count-front, count-later}
+use Rattle.lj_greedy.proofs.ChosenSets.{count-map, count-none}
 use Rattle.lj_greedy.proofs.ChosenSets.{count-same, count-sets, count-split, each_is_chosen, length-sets_of}
 use Rattle.lj_greedy.proofs.ChosenSets.{length-with_point}
 
@@ -73,7 +74,8 @@ gains_fit small o t lo v n q b old h lacks is few short gains = λ p inside.
     (subst (λ m. AreGains o m b old) is gains).each p inside in
     let split = completed-split o p lo v n q b h lacks in
     let long = length-with_point q b in
-    let most = completed-small small o p (suc n) (with_point q b) (omega (arith, long, short)) (omega (arith, is, few)) in
+    let most = completed-small small o p (suc n) (with_point q b) (omega (arith, long, short)) (omega
+    (arith, is, few)) in
     omega (arith, was, split, most)
 
 pub gains_small : ChooseIsSmall → (o : List ℕ → Bool) (t : ℕ) (b gains : List ℕ) → t ≤ 8 → length b ≤ 25

@@ -19,9 +19,9 @@ use lj_excess::{Counts, multiplicity_law, tally_law};
 use lj_rank::{TSet, rank_law, unrank};
 use std::alloc::Global;
 
-/// A covering made from nothing: while a set is in no block, a block is grown from the first such set by the points that
-/// complete the most open sets; then its spare blocks are removed. Cost: for each block, a few steps for each set of
-/// `t - 1` of its points and each point of the cell; 4 bytes for each set.
+/// A covering made from nothing: while a set is in no block, a block is grown from the first such set by the points
+/// that complete the most open sets; then its spare blocks are removed. Cost: for each block, a few steps for each set
+/// of `t - 1` of its points and each point of the cell; 4 bytes for each set.
 pub fn greedy(alloc: Global, cell: Cell) -> Result<Design, GreedyFail>
     requires { 1 ≤ cell.k }
     ensures ok { IfOk result (λ d. d ≡ record { cell = cell; blocks = reduced cell (greedy_list cell) }) }

@@ -12,8 +12,8 @@ use lj_excess::Counts;
 use lj_rank::{TSet, rank_law};
 
 // The gains of a block's points are kept while it grows. A set of one point less than the cell's sets is completed by
-// each point that makes an open set of it; a point that comes to the block makes new such sets, each of the point and of
-// sets of two points less that were there. Of one such set and a point p the rank is a sum for the set, which is the
+// each point that makes an open set of it; a point that comes to the block makes new such sets, each of the point and
+// of sets of two points less that were there. Of one such set and a point p the rank is a sum for the set, which is the
 // same for each p between two of its points, and the number of sets below p of as many points as stand up to it.
 
 /// The gains of a block of no points, from zeros.

@@ -35,8 +35,10 @@ among_twice-requires t c = (
                   let b = c.args.block.now in
                   let i = c.loop-i.i in
                   let least : c.binom.result ≡ choose (get_or b i 0) c.args.t =
-                  c.binom.ensures.value ∙ subst (λ p. choose c.at.result c.args.t ≡ choose p c.args.t) c.at.ensures refl in
-                  let room = room_below c.choose_law.ensures.grows b c.args.n i c.args.t c.args.rest (length c.args.counts.now)
+                  c.binom.ensures.value ∙ subst (λ p. choose c.at.result c.args.t ≡ choose p c.args.t) c.at.ensures
+                  refl in
+                  let room = room_below c.choose_law.ensures.grows b c.args.n i c.args.t c.args.rest
+                  (length c.args.counts.now)
                   c.requires.ascends c.requires.within c.loop-i-test.true (omega arith) c.requires.room j below in
                   omega (arith, least, room)),
             ),
@@ -74,6 +76,8 @@ loop-i-preserved t c = λ r h.
     let within : i < length b = omega arith in
     ⊎_elim (λ before. c.loop-i.invariant r before)
     (λ last.
-    let here = subst (λ n. IsRankAmong (take i b) (c.args.t - 1) (c.args.rest + n) r) (sym c.binom.ensures.value) last in
+    let here = subst (λ n. IsRankAmong (take i b) (c.args.t - 1) (c.args.rest + n) r)
+    (sym c.binom.ensures.value) last in
     c.among_twice.ensures.0 c.if-not-among_twice.false r here)
-    ((among_more c.set_laws.ensures b i c.args.t c.args.rest v r c.requires.ascends within c.at.ensures (omega arith)).0 h)
+    ((among_more c.set_laws.ensures b i c.args.t c.args.rest v r c.requires.ascends within c.at.ensures
+    (omega arith)).0 h)

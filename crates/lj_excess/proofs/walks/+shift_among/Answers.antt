@@ -35,8 +35,10 @@ shift_among-requires t c =
                       let b = c.args.block.now in
                       let i = c.loop-i.i in
                       let least : c.binom.result ≡ choose (get_or b i 0) c.args.t =
-                      c.binom.ensures.value ∙ subst (λ p. choose c.at.result c.args.t ≡ choose p c.args.t) c.at.ensures refl in
-                      let room = room_below c.choose_law.ensures.grows b c.args.n i c.args.t c.args.rest (length c.args.counts.now)
+                      c.binom.ensures.value ∙ subst (λ p. choose c.at.result c.args.t ≡ choose p c.args.t)
+                      c.at.ensures refl in
+                      let room = room_below c.choose_law.ensures.grows b c.args.n i c.args.t c.args.rest
+                      (length c.args.counts.now)
                       c.requires.ascends c.requires.within c.loop-i-test.true (omega arith) c.requires.room j below in
                       omega (arith, least, room, count)),
                 ),

@@ -5,7 +5,8 @@ use Rattle.lj_excess.proofs.walks.points_twice.Goals as goal
 
 pub loop-i-init : goal.loop-i-init
 loop-i-init c = λ r h.
-    absurd (among_few c.set_laws.ensures c.args.block.now 0 1 c.args.rest r c.requires.ascends (omega arith) (omega arith) h)
+    absurd (among_few c.set_laws.ensures c.args.block.now 0 1 c.args.rest r c.requires.ascends (omega arith)
+    (omega arith) h)
 
 pub bounds-counts-rest : goal.bounds-counts-rest
 bounds-counts-rest c =
@@ -22,10 +23,13 @@ returns-then-counts-rest-lt2 c = (
       let v = c.at.result in
       let r : ℕ = c.args.rest + v in
       let within : i < length b = omega arith in
-      let here = (among_point c.set_laws.ensures b i c.args.rest v r c.requires.ascends within c.at.ensures).1 (omega arith) in
-      let more = (among_more c.set_laws.ensures b i 1 c.args.rest v r c.requires.ascends within c.at.ensures (omega arith)).1
+      let here = (among_point c.set_laws.ensures b i c.args.rest v r c.requires.ascends within c.at.ensures).1
+      (omega arith) in
+      let more = (among_more c.set_laws.ensures b i 1 c.args.rest v r c.requires.ascends within c.at.ensures
+      (omega arith)).1
       (inr here) in
-      let all = among_up_to c.set_laws.ensures b (i + 1) c.args.n 1 c.args.rest r c.requires.ascends (omega arith) c.requires.within
+      let all = among_up_to c.set_laws.ensures b (i + 1) c.args.n 1 c.args.rest r c.requires.ascends
+      (omega arith) c.requires.within
       more in
       let two = twice r all in
       absurd (omega (arith, two, c.if-counts-rest-lt2.true)),

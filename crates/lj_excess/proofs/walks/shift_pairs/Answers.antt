@@ -33,7 +33,8 @@ loop-i-preserved c =
     let v = c.at.result in
     let rest = c.args.rest in
     let within : i < length b = omega arith in
-    changed_more c.set_laws.ensures (shifted c.args.step) c.args.counts.now c.loop-i.counts c.shift_points.new.counts b i
+    changed_more c.set_laws.ensures (shifted c.args.step) c.args.counts.now c.loop-i.counts c.shift_points.new.counts
+    b i
     2 rest v c.requires.ascends within c.at.ensures (omega arith) c.loop-i.invariant
     (subst (λ n. Changed (shifted c.args.step) c.loop-i.counts c.shift_points.new.counts
     (IsRankAmong (take i b) 1 (rest + n))) c.binom.ensures.value c.shift_points.ensures)

@@ -28,5 +28,6 @@ loop-i-preserved c =
     rest v c.requires.ascends within c.at.ensures (omega arith) c.loop-i.invariant
     (changed_same (shifted c.args.step) c.loop-i.counts c.shift_one.new.counts (λ place. rest + v ≡ place)
     (IsRankAmong (take i b) 0 (rest + choose v 1))
-    (λ r. let one = among_point c.set_laws.ensures b i rest v r c.requires.ascends within c.at.ensures in (one.1, one.0))
+    (λ r. let one = among_point c.set_laws.ensures b i rest v r c.requires.ascends within c.at.ensures in
+    (one.1, one.0))
     c.shift_one.ensures)

@@ -43,7 +43,8 @@ loop-r-preserved c =
           let grown_is = w.grown_block-block.ensures.value bs counted in
           let short = begun.few in
           let end = c.set_count-r-end.ensures in
-          let parts = put cell k c.if-at-eq0.counts w.add.new.self c.if-at-eq0.blocks.items (bs ++ b ∷ []) (r + 1) cell_is
+          let parts = put cell k c.if-at-eq0.counts w.add.new.self c.if-at-eq0.blocks.items (bs ++ b ∷ [])
+          (r + 1) cell_is
           w.counts-is (ap (λ (v : Vec (List ℕ) Global). v.items) w.blocks-is ∙ w.in_ok-push.ensures.items)
           (w.add.ensures.counts bs (omega (arith, short, few, size, end, c.loop-r-test.true)) counted)
           (begun_block ranks ranked tally some bs k r counts s b counts_is zero_is set w.set_of.ensures.rank

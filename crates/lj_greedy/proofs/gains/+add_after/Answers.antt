@@ -62,7 +62,8 @@ add_after-requires t c =
                 (
                   subst (λ r. Ascends 0 v (r ++ drop (i + 1) b)) (sym c.longer.ensures)
                       (Ascends-join v row x (drop (i + 1) b)
-                      (subst (λ ys. Ascends 0 v (row ++ ys)) (split_at b i x inside c.at.ensures) c.loop-i.invariant.ascends)),
+                      (subst (λ ys. Ascends 0 v (row ++ ys))
+                      (split_at b i x inside c.at.ensures) c.loop-i.invariant.ascends)),
                   λ p within.
                       let low : p < length c.args.gains.now = omega (arith, within, gained) in
                       let fits = c.requires.fits p low in

@@ -146,7 +146,8 @@ add_with-requires t c =
                 (
                   subst (λ r. Ascends 0 v (r ++ with_point q (drop (i + 1) b))) (sym made)
                       (Ascends-join v row x (with_point q (drop (i + 1) b))
-                      (later_ascends v q i x row b inside c.at-point.ensures c.if-q-point.false c.loop-i.invariant.ascends)),
+                      (later_ascends v q i x row b inside c.at-point.ensures c.if-q-point.false
+                      c.loop-i.invariant.ascends)),
                   λ p within.
                       let low : p < length c.args.gains.now = omega (arith, within, gained) in
                       let fits = c.requires.fits p low in
@@ -198,6 +199,7 @@ returns t c =
       count = c.loop-i.invariant.long;
       each = λ p low.
           let so_far = c.loop-i.invariant.left p low in
-          let none = with_end o p c.args.left c.args.q c.loop-i.i c.args.row c.args.block.now (omega arith) (omega arith) in
+          let none = with_end o p c.args.left c.args.q c.loop-i.i c.args.row c.args.block.now (omega arith)
+          (omega arith) in
           omega (arith, so_far, none);
     }

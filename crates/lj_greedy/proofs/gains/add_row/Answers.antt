@@ -16,7 +16,8 @@ add_gap-requires-clause-inside c = λ p low high.
     let inside : j < length row = omega arith in
     let point = c.at-point.ensures in
     let next = (gap_below cell.v j c.loop-j.from row c.loop-j.invariant.gap inside).1 in
-    let least = gap_inside c.rank_law.ensures cell.v cell.t j c.loop-j.from p row c.loop-j.invariant.gap c.requires.size low
+    let least = gap_inside c.rank_law.ensures cell.v cell.t j c.loop-j.from p row c.loop-j.invariant.gap
+    c.requires.size low
     (omega (arith, high, next, point)) (λ within. omega (arith, high, point)) in
     omega (arith, least, c.loop-j.invariant.base, c.requires.count)
 
@@ -39,7 +40,8 @@ add_gap-requires-clause-fits c = λ p low high.
     let len = c.requires.len in
     let fits = c.requires.fits p (omega (arith, high, next, point, len)) in
     let was = c.loop-j.invariant.rest p low in
-    let one = gap_completes c.points_are_tested.ensures.point counts cell.v j c.loop-j.from p row c.loop-j.invariant.gap low
+    let one = gap_completes c.points_are_tested.ensures.point counts cell.v j c.loop-j.from p row
+    c.loop-j.invariant.gap low
     (λ within. omega (arith, high, point)) in
     let base = ap (λ n. one_at_zero counts (n + choose p (j + 1))) c.loop-j.invariant.base in
     omega (arith, fits, was, one, base)
@@ -99,7 +101,8 @@ loop-j-preserved c =
           (λ past.
           let same = added.above p past in
           let is : get_or row j 0 ≡ p = omega (arith, past, high, point) in
-          let none = point_completes c.points_are_tested.ensures.point o p row (subst (Has row) is (Has-at row j inside)) in
+          let none = point_completes c.points_are_tested.ensures.point o p row (subst (Has row) is
+          (Has-at row j inside)) in
           omega (arith, was, same, none))
           (cases_lt p c.at-point.result))
           (cases_lt p from);
@@ -117,7 +120,8 @@ add_gap-requires-2-clause-inside c = λ p low high.
     let all : c.len.result ≡ j = omega arith in
     let len = c.requires.len in
     let long = c.loop-j.invariant.long in
-    let least = gap_inside c.rank_law.ensures cell.v cell.t j c.loop-j.from p row c.loop-j.invariant.gap c.requires.size low
+    let least = gap_inside c.rank_law.ensures cell.v cell.t j c.loop-j.from p row c.loop-j.invariant.gap
+    c.requires.size low
     (omega (arith, high, len, long)) (λ within. absurd (omega (arith, within))) in
     let size = ap (λ n. choose p (n + 1)) all in
     omega (arith, least, size, c.loop-j.invariant.base, c.requires.count)
@@ -139,7 +143,8 @@ add_gap-requires-2-clause-fits c = λ p low high.
     let long = c.loop-j.invariant.long in
     let fits = c.requires.fits p (omega (arith, high, long)) in
     let was = c.loop-j.invariant.rest p low in
-    let one = gap_completes c.points_are_tested.ensures.point counts cell.v j c.loop-j.from p row c.loop-j.invariant.gap low
+    let one = gap_completes c.points_are_tested.ensures.point counts cell.v j c.loop-j.from p row
+    c.loop-j.invariant.gap low
     (λ within. absurd (omega (arith, within))) in
     let base = ap (λ n. one_at_zero counts (n + choose p (j + 1))) c.loop-j.invariant.base in
     let size = ap (λ n. one_at_zero counts (c.loop-j.base + choose p (n + 1))) all in

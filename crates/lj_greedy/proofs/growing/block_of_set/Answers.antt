@@ -13,7 +13,8 @@ add_to_gains-requires-clause-block c =
 
 pub add_to_gains-requires-clause-point : goal.add_to_gains-requires-clause-point
 add_to_gains-requires-clause-point c =
-    let below = Ascends-get_or_below 0 c.args.counts.now.cell.v c.args.set.now c.loop-i.i c.requires.set.0 (omega arith) in
+    let below = Ascends-get_or_below 0 c.args.counts.now.cell.v c.args.set.now c.loop-i.i c.requires.set.0
+    (omega arith) in
     omega (arith, below, c.at-p.ensures)
 
 pub add_to_gains-requires-clause-fresh : goal.add_to_gains-requires-clause-fresh
@@ -51,9 +52,11 @@ loop-i-preserved c =
     (subst (λ q. AllBelow q (take i set)) (sym c.at-p.ensures)
     (AllBelow-take 0 c.args.counts.now.cell.v set i c.requires.set.0 inside)) in
     record {
-      block = c.push.ensures ∙ ap (λ b. b ++ p ∷ []) c.loop-i.invariant.block ∙ ap (λ q. take i set ++ q ∷ []) c.at-p.ensures
+      block = c.push.ensures ∙ ap (λ b. b ++ p ∷ []) c.loop-i.invariant.block ∙ ap
+          (λ q. take i set ++ q ∷ []) c.at-p.ensures
           ∙ sym (take_more set i 0 inside);
-      gains = subst (λ b. AreGains (is_zero_at c.args.counts.now.counts) c.args.counts.now.cell.t b c.add_to_gains.new.gains)
+      gains = subst (λ b. AreGains (is_zero_at c.args.counts.now.counts) c.args.counts.now.cell.t b
+          c.add_to_gains.new.gains)
           (with_point-last p c.loop-i.block below ∙ sym c.push.ensures) c.add_to_gains.ensures.gains;
       long = c.add_to_gains.ensures.len ∙ c.loop-i.invariant.long;
     }

@@ -63,7 +63,8 @@ loop-block-preserved c =
           let start : List ℕ = greedy_block o cell c.args.start in
           subst (λ d. grown o cell (cell.k - length c.with_point-block.result) d ≡ start) (sym made)
           (subst (λ n. grown o cell (cell.k - n) (with_point p b) ≡ start) next
-          (grown_step c.points_are_tested.ensures.point o cell (length b) p b c.loop-block.gains start room old.block.0 gained
+          (grown_step c.points_are_tested.ensures.point o cell (length b) p b c.loop-block.gains start room
+          old.block.0 gained
           old.gains c.best_point-p.ensures.value old.value));
       within = subst (Within c.args.start) (sym made) (within_step p b c.args.start old.within);
     }

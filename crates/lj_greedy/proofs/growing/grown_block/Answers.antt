@@ -13,7 +13,8 @@ zero_at : (v p : ℕ) → p < length (take v zeros) → get_or (take v zeros) p 
 zero_at v p inside =
     let long : length zeros ≡ 99 = length-replicate {A = ℕ} 99 0 in
     let front = length-take v zeros in
-    get_or-take v zeros p 0 (omega (arith, inside, front)) ∙ get_or-replicate {A = ℕ} 99 p 0 0 (omega (arith, inside, front, long))
+    get_or-take v zeros p 0 (omega (arith, inside, front)) ∙ get_or-replicate {A = ℕ} 99 p 0 0 (omega
+    (arith, inside, front, long))
 
 pub start_gains-requires-clause-zeros : goal.start_gains-requires-clause-zeros
 start_gains-requires-clause-zeros c = λ p inside. zero_at c.points-v.result p inside

@@ -1,4 +1,5 @@
-use Rattle.std.proofs.Common.{◌≡◌, ℕ, ◌+◌, ◌-◌, ◌<◌, List, [], ◌∷◌, ◌++◌, length, take, arith, ap, refl, sym, subst, ◌∙◌}
+use Rattle.std.proofs.Common.{◌≡◌, ℕ, ◌+◌, ◌-◌, ◌<◌, List, [], ◌∷◌, ◌++◌, length, take, arith, ap, refl, sym}
+use Rattle.std.proofs.Common.{subst, ◌∙◌}
 use Rattle.std.proofs.lemmas.Bool.{false≢true}
 use Rattle.std.proofs.lemmas.List.{append-nil, get_or_read, reverse-append, take_all}
 use Rattle.std.specs.Prelude.{reverse}
@@ -44,7 +45,8 @@ loop-left-preserved-then-is_spare c =
       counted = c.remove.ensures.counts (take n bs) kept (omega (arith, short, few)) counted
           ∙ ap (tally_of (take n bs ++ kept)) (sym c.remove.ensures.cell);
       reducing = subst (λ k. IsReducing k bs n kept) (sym c.remove.ensures.cell)
-          (reducing_spare c.multiplicity_law.ensures.within c.sets_law.ensures.members c.multiplicity_law.ensures.some cell
+          (reducing_spare c.multiplicity_law.ensures.within c.sets_law.ensures.members
+          c.multiplicity_law.ensures.some cell
           bs n b kept inside is reducing spare);
     }
 

@@ -35,10 +35,13 @@ returns-clause-counts c = λ bs cs short is.
     let block = subst (λ (s : Tally). IsBlock s.cell.v s.cell.k b) (sym c.self.view_is) c.requires in
     let cell_is : cell ≡ c.args.self.now.cell = ap (λ (s : Tally). s.cell) c.self.view_is in
     let counts_is : old ≡ multiplicities (bs ++ c.args.block.now ∷ cs) cell =
-    ap (λ (s : Tally). s.counts) (c.self.view_is ∙ is) ∙ ap (multiplicities (bs ++ c.args.block.now ∷ cs)) (sym cell_is) in
-    let sized = subst (λ t. Changed (shifted 4294967295) c.deref_mut.result.now new (IsRankAmong b t 0)) c.set_size.ensures.value
+    ap (λ (s : Tally). s.counts) (c.self.view_is ∙ is) ∙ ap (multiplicities (bs ++ c.args.block.now ∷ cs))
+    (sym cell_is) in
+    let sized = subst (λ t. Changed (shifted 4294967295) c.deref_mut.result.now new
+    (IsRankAmong b t 0)) c.set_size.ensures.value
     c.shift_block.ensures in
-    let changed = subst (λ ns. Changed (shifted 4294967295) ns new (IsRankAmong b cell.t 0)) c.deref_mut.ensures.value sized in
+    let changed = subst (λ ns. Changed (shifted 4294967295) ns new
+    (IsRankAmong b cell.t 0)) c.deref_mut.ensures.value sized in
     let now = tally_removed c.set_laws.ensures c.multiplicity_law.ensures.within c.tally_law.ensures.ranks cell
     (omega (arith, limits)) bs cs b old new block.0 short counts_is changed in
     tally_parts cell c.args.self.now.cell _ (multiplicities (bs ++ cs) c.args.self.now.cell) cell_is
