@@ -152,6 +152,33 @@ fn next_block(state: &mut u64, v: u64, k: u64) -> Block
     block
 }
 
+// Both checks of this many generated blocks.
+fn both_of_generated<R: Threads + Abort + Sync>(
+    rt: &R,
+    alloc: Global,
+    cell: Cell,
+    n: u64,
+    state: &mut u64,
+) -> Result<(), Fail>
+    requires { 1 ≤ cell.k }
+{
+    let mut lines = Vec::new(alloc);
+    for _ in 0..n {
+        write_block(&next_block(state, cell.v as u64, cell.k as u64), &mut lines)?;
+    }
+    let blocks = read(alloc, cell, &lines)?;
+    assert_eq!(rt;
+        blocks.len() as u64,
+        n,
+        "of {} {} {}",
+        cell.v,
+        cell.k,
+        cell.t
+    );
+    both(rt, alloc, cell, &blocks)?;
+    Ok(())
+}
+
 #[test]
 fn both_checks_say_the_same_of_generated_blocks(rt: HostRuntime) -> Result<(), Fail> {
     let alloc = rt.alloc();
@@ -170,13 +197,23 @@ fn both_checks_say_the_same_of_generated_blocks(rt: HostRuntime) -> Result<(), F
     ] {
         let cell = Cell::new(v, k, t).expect(&rt, "a cell");
         for n in [0, 1, 5, 40] {
-            let mut lines = Vec::new(alloc);
-            for _ in 0..n {
-                write_block(&next_block(&mut state, v, k), &mut lines)?;
+            both_of_generated(&rt, alloc, cell, n, &mut state)?;
+        }
+    }
+    Ok(())
+}
+
+#[test]
+fn both_checks_say_the_same_in_all_small_cells(rt: HostRuntime) -> Result<(), Fail> {
+    let alloc = rt.alloc();
+    let mut state = 2;
+    for v in 1..10 {
+        for k in 1..6 {
+            for t in 0..4 {
+                if let Ok(cell) = Cell::new(v, k, t) {
+                    both_of_generated(&rt, alloc, cell, 7, &mut state)?;
+                }
             }
-            let blocks = read(alloc, cell, &lines)?;
-            assert_eq!(rt; blocks.len(), n, "of {v} {k} {t}");
-            both(&rt, alloc, cell, &blocks)?;
         }
     }
     Ok(())
@@ -282,5 +319,26 @@ fn the_most_marks_are_made(rt: HostRuntime) -> Result<(), Fail> {
         both_of(&rt, alloc, cell, &lines)?,
         Some(Refusal::Marks { n: 2_147_515_344 })
     );
+    Ok(())
+}
+
+// The sets of the first 25 points come first, and then those of the point 26 and seven of the first 24.
+#[test]
+fn two_blocks_leave_a_set_of_a_large_cell_uncovered(rt: HostRuntime) -> Result<(), Fail> {
+    let alloc = rt.alloc();
+    let cell = Cell { v: 42, k: 25, t: 8 };
+    let mut lines = copies(alloc, TWENTY_FIVE, 1)?;
+    lines.extend_from_slice(
+        b"1 2 3 4 5 6 7 8 9 10 11 12 13 14 15 16 17 18 19 20 21 22 23 24 26\n",
+    )?;
+    for workers in [1, 2, 3, 64] {
+        let refusal = check(&rt, alloc, cell, read(alloc, cell, &lines)?, workers).err();
+        let set = set_of(&[0, 1, 2, 3, 4, 5, 24, 25]);
+        assert_eq!(rt;
+            refusal,
+            Some(Refusal::Uncovered { set }),
+            "with {workers} workers"
+        );
+    }
     Ok(())
 }
