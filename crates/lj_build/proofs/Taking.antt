@@ -75,10 +75,11 @@ stuck held before places us i u within is lacks taken done rest p =
     let whole : IsPermutation (done ++ (first ++ left)) (done ++ (us ++ rest)) =
     IsPermutation-trans (done ++ (first ++ left)) (done ++ uploads_at held before) (done ++ (us ++ rest)) q p in
     let from : (done ++ first) ++ left ≡ done ++ (first ++ left) = append_assoc done first left in
+    let parts : us ≡ first ++ u ∷ later = with_item us i u within is in
     let to : (done ++ first) ++ (u ∷ (later ++ rest)) ≡ done ++ (us ++ rest) =
     append_assoc done first (u ∷ (later ++ rest))
     ∙ ap (λ (vs : List Upload). done ++ vs)
-    (sym (append_assoc first (u ∷ later) rest) ∙ ap (λ (vs : List Upload). vs ++ rest) (sym (with_item us i u within is))) in
+    (sym (append_assoc first (u ∷ later) rest) ∙ ap (λ (vs : List Upload). vs ++ rest) (sym parts)) in
     lacking held places (done ++ first) (later ++ rest) u lacks
     (subst (λ (x : List Upload × List Upload). IsPermutation x.0 x.1) (λ i. (sym from i, sym to i)) whole)
 

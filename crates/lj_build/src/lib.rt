@@ -13,3 +13,6 @@ pub use builds::{Built, build};
 pub use closing::{Closed, close};
 pub use ends::Ends;
 pub use laws::one_report_law;
+
+#[cfg(test)]
+mod tests;
