@@ -1,5 +1,6 @@
-// The blocks of a product, written by hand: each pair of 51 points beside each pair of 40, in the order of the rule, as
-// lines.
+// The blocks of products, written by hand, in the order of the rule, as lines. Without a word they are each pair of 51
+// points beside each pair of 40; `short_rows` and `long_rows` are five blocks beside the pairs of 30 points beside
+// those of 30 others, where either the five or the others run faster.
 use std::io::Write;
 
 #[derive(Clone, Copy)]
@@ -47,8 +48,24 @@ fn put_number(out: &mut Vec<u8>, n: u8) {
     out.push(b'0' + n % 10);
 }
 
+// Five blocks of three of five points.
+fn five() -> Vec<Block> {
+    let mut blocks = Vec::new();
+    for points in [[1, 2, 3], [0, 2, 3], [0, 1, 3], [0, 1, 4], [2, 3, 4]] {
+        let mut block = Block { points: [0; 25], len: 3 };
+        block.points[..3].copy_from_slice(&points);
+        blocks.push(block);
+    }
+    blocks
+}
+
 fn main() {
-    let blocks = joined(&pairs(51), &pairs(40), 51);
+    let fours = || joined(&pairs(30), &pairs(30), 30);
+    let blocks = match std::env::args().nth(1).as_deref() {
+        Some("short_rows") => joined(&fours(), &five(), 60),
+        Some("long_rows") => joined(&five(), &fours(), 5),
+        _ => joined(&pairs(51), &pairs(40), 51),
+    };
     let mut text = Vec::new();
     for block in &blocks {
         for (i, point) in block.points[..block.len as usize].iter().enumerate() {

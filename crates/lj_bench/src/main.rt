@@ -1,10 +1,16 @@
 //! Work that the scripts in `bench/` time. The word says which: `blocks` writes the blocks of a plan of 994,500 blocks,
-//! `few_blocks` those of a small one, `script` reads a script from standard input, and `lines` its lines alone.
+//! `few_blocks` those of a small one, `short_rows` and `long_rows` those of plans of 946,125 blocks over a nested node,
+//! in rows of 5 and of 189,225. `stream` writes the first one's blocks one by one. `blocks_at`,
+//! `short_rows_at` and `long_rows_at` take a million blocks of these plans at random positions, and write a sum.
+//! `script` reads a script from standard input, and `lines` its lines alone.
 #![tactic(auto)]
 
-use lj_base::{Cell, Frame, MAX_INPUT, Sink, Source, StdSink, StdSource};
+ghost use Rattle.std.specs.Prelude.{◌≡◌};
+
+use lj_base::{Cell, Frame, MAX_INPUT, Memory, Sink, Source, StdSink, StdSource};
 use lj_deriv::{Arena, Part, Plan, Rule};
-use lj_expand::{MAX_EXPANDED, write_blocks};
+use lj_expand::{MAX_EXPANDED, block_at, stream, write_blocks};
+use lj_samples::{five_fives, three_fours, upload};
 use lj_script::read_script;
 use lj_text::{Lines, put, put_number, read_all, write_all};
 use std::alloc::Global;
@@ -32,6 +38,12 @@ fn run<S: Source, K: Sink>(alloc: Global, word: &str, input: &mut S, out: &mut K
     let text = match word {
         "blocks" => blocks(alloc, large_plan(alloc)?)?,
         "few_blocks" => blocks(alloc, small_plan(alloc)?)?,
+        "short_rows" => blocks(alloc, nested_plan(alloc, false).ok()?)?,
+        "long_rows" => blocks(alloc, nested_plan(alloc, true).ok()?)?,
+        "blocks_at" => blocks_at(alloc, &large_plan(alloc)?)?,
+        "short_rows_at" => blocks_at(alloc, &nested_plan(alloc, false).ok()?)?,
+        "long_rows_at" => blocks_at(alloc, &nested_plan(alloc, true).ok()?)?,
+        "stream" => one_by_one(alloc, &large_plan(alloc)?, out)?,
         "script" => script(alloc, input)?,
         "lines" => lines(alloc, input)?,
         _ => return None,
@@ -91,6 +103,51 @@ fn small_plan(alloc: Global) -> Option<Plan> {
     arena.plan(alloc, root).ok()
 }
 
+// 946,125 blocks: the five of a nested node, which is induced over one that is derived at two points, beside the pairs
+// of 30 points beside those of 30 others. A row has five of them, or it has all of the pairs.
+fn nested_plan(alloc: Global, are_long: bool) -> Result<Plan, Memory> {
+    let mut arena = Arena::new(alloc, Frame::new(Cell { v: 65, k: 7, t: 4 }));
+    let inner = arena.push_upload(upload(alloc, 1, five_fives(alloc)?)?)?;
+    let outer = arena.push_upload(upload(alloc, 2, three_fours(alloc)?)?)?;
+    arena.reserve(5)?;
+    let mut children = [0; 26];
+    children[4] = arena.add(Rule::Derived2 {
+        upload: inner,
+        first: 0,
+        second: 1,
+    });
+    let nested = arena.add(Rule::Induced {
+        cell: Cell { v: 5, k: 3, t: 2 },
+        upload: outer,
+        children,
+    });
+    let pairs = arena.add(Rule::All {
+        cell: Cell { v: 30, k: 2, t: 2 },
+    });
+    let fours = arena.add(Rule::product(Cell { v: 60, k: 4, t: 2 }, 30, &[part(2, pairs, pairs)]));
+    if are_long {
+        let parts = [part(3, nested, fours)];
+        let root = arena.add(Rule::product(Cell { v: 65, k: 7, t: 2 }, 5, &parts));
+        return arena.plan(alloc, root);
+    }
+    let parts = [part(4, fours, nested)];
+    let root = arena.add(Rule::product(Cell { v: 65, k: 7, t: 2 }, 60, &parts));
+    arena.plan(alloc, root)
+}
+
+// The one part of a product, which serves the sets with up to two points on the first side.
+fn part(l: u8, first: u64, second: u64) -> Part
+    ensures { result ≡ record { a = 0; b = 2; l = l; first = first; second = second } }
+{
+    Part {
+        a: 0,
+        b: 2,
+        l,
+        first,
+        second,
+    }
+}
+
 // The lines of the plan's blocks.
 fn blocks(alloc: Global, plan: Plan) -> Option<Vec<u8>> {
     if plan.cost() > MAX_EXPANDED || plan.cell().k == 0 {
@@ -99,6 +156,32 @@ fn blocks(alloc: Global, plan: Plan) -> Option<Vec<u8>> {
     let mut text = Vec::new(alloc);
     write_blocks(alloc, &plan, &mut text).ok()?;
     Some(text)
+}
+
+// Writes the plan's blocks one by one.
+fn one_by_one<K: Sink>(alloc: Global, plan: &Plan, out: &mut K) -> Option<Vec<u8>> {
+    if plan.cell().k == 0 {
+        return None;
+    }
+    stream(plan, out).ok()?;
+    Some(Vec::new(alloc))
+}
+
+// The sum of the first points of a million blocks at random positions.
+fn blocks_at(alloc: Global, plan: &Plan) -> Option<Vec<u8>> {
+    let cost = plan.cost();
+    let mut state = 1u64;
+    let mut sum = 0u64;
+    for _call in 0..1_000_000 {
+        state = state
+            .wrapping_mul(6_364_136_223_846_793_005)
+            .wrapping_add(1);
+        let block = block_at(plan, (state >> 32) % cost);
+        if block.len() > 0 {
+            sum = sum.wrapping_add(u64::from(block.at(0)));
+        }
+    }
+    line(alloc, b"sum ", sum)
 }
 
 // The number of sections of a script.

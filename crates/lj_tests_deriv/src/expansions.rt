@@ -1,6 +1,7 @@
-use crate::given::{lines, part, plan_text};
-use lj_base::{Cell, Frame};
+use crate::given::{line_at, lines, part, plan_text};
+use lj_base::{Cell, Frame, MemSink};
 use lj_deriv::{Arena, Rule};
+use lj_expand::stream;
 use lj_samples::{five_fives, three_fours, upload};
 use std::test::Fail;
 
@@ -56,6 +57,8 @@ fn a_product_of_three_parts(rt: HostRuntime) -> Result<(), Fail> {
     assert!(rt; plan_text(alloc, &arena, root)?.as_slice() == text.as_slice());
     let want = b"3 4 5\n1 2 3\n1 2 4\n1 2 5\n1 2 3\n".as_slice();
     assert!(rt; lines(alloc, &arena, root)?.as_slice() == want);
+    let plan = arena.plan(alloc, root)?;
+    assert!(rt; line_at(alloc, &plan, 3)?.as_slice() == b"1 2 5\n".as_slice());
     Ok(())
 }
 
@@ -80,6 +83,12 @@ fn a_product_of_two_parts(rt: HostRuntime) -> Result<(), Fail> {
     let root = arena.add(Rule::product(Cell { v: 5, k: 3, t: 2 }, 2, &parts));
     let want = b"3 4 5\n1 2 3\n1 2 4\n1 2 5\n".as_slice();
     assert!(rt; lines(alloc, &arena, root)?.as_slice() == want);
+    let plan = arena.plan(alloc, root)?;
+    let mut sink = MemSink::new(alloc, 100, 4, vec![in alloc; 4; 1]?)?;
+    assert!(rt; plan.cell().k > 0);
+    let broken = stream(&plan, &mut sink);
+    assert!(rt; broken.is_err_and(|fault| fault.count == 1));
+    assert!(rt; sink.bytes() == b"3 4 5\n1 2 ".as_slice());
     Ok(())
 }
 
@@ -104,6 +113,11 @@ fn three_fours_cut_to_five_points(rt: HostRuntime) -> Result<(), Fail> {
     assert!(rt; plan_text(alloc, &arena, root)?.as_slice() == text.as_slice());
     let want = b"1 2 4\n1 3 4\n2 3 4\n1 2 5\n3 4 5\n".as_slice();
     assert!(rt; lines(alloc, &arena, root)?.as_slice() == want);
+    let plan = arena.plan(alloc, root)?;
+    for i in 0..5usize {
+        let line = line_at(alloc, &plan, i as u64)?;
+        assert!(rt; line.as_slice() == &want[6 * i..6 * i + 6]);
+    }
     Ok(())
 }
 

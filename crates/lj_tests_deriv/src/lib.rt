@@ -8,4 +8,6 @@ mod given;
 #[cfg(test)]
 mod plans;
 #[cfg(test)]
+mod positions;
+#[cfg(test)]
 mod uploads;
