@@ -1,8 +1,8 @@
 #!/bin/sh
-# Measures `ljcr build`: scripts of a frame alone, beside the closing of the same bounds by `prices.rs`, a program by hand
-# that prints no report; and generated scripts, many uploads, many blocks and a large body, for which there is no program
-# by hand. It takes ten runs of each, in turn, and prints the best and the median wall time in seconds and the peak memory
-# in megabytes. It needs rustc and GNU time, and takes some minutes.
+# Measures `ljcr build`: scripts of a frame alone, beside the closing of the same bounds by `prices.rs`, a program by
+# hand that prints no report; and generated scripts, many uploads, many blocks and a large body, for which there is no
+# program by hand. It takes ten runs of each, in turn, and prints the best and the median wall time in seconds and the
+# peak memory in megabytes. It needs rustc and GNU time, and takes a minute.
 # usage: build.sh LJCR
 set -eu
 ljcr=$1

@@ -1,8 +1,9 @@
 #!/bin/sh
 # Measures the least prices at all cells of a closed table without uploads: the proved program beside `prices.rs`, one
-# written by hand, in safe Rust and with its reads of bounds unchecked. The time of a pass over all cells is that of a run with many passes less that of a run
-# with one, over the number of passes between. It prints the best and the median of ten such times for each, in
-# microseconds, taken in turn, and the ratios. It needs rustc and a `date` that knows %N, and takes some minutes.
+# written by hand, in safe Rust and with its reads of bounds unchecked. The time of a pass over all cells is that of a
+# run with many passes less that of a run with one, over the number of passes between. It prints the best and the
+# median of ten such times for each, in microseconds, taken in turn, and the ratios. It needs rustc and a `date` that
+# knows %N, and takes some minutes.
 # usage: prices.sh LJ_BENCH_PRICES
 set -eu
 proved=$1
