@@ -6,3 +6,4 @@ pub mod BinomialTable
 pub mod Choices
 pub mod PointArrays
 pub mod Insertion
+pub mod OffsetTable

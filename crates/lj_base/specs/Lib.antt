@@ -7,3 +7,4 @@ pub mod Streams
 pub mod Frames
 pub mod InMemory
 pub mod Bounds
+pub mod Offsets

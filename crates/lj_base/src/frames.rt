@@ -6,6 +6,7 @@ ghost use Rattle.lj_base.specs.Frames.{up_to_v};
 
 use crate::cells::Cell;
 use crate::limits::MAX_CELLS;
+use crate::offsets::offsets;
 use std::marker::Model;
 
 /// All cells whose three numbers are at most those of a top cell.
@@ -84,11 +85,12 @@ impl Frame {
         before(self.top.t as u64, k as u64)
     }
 
-    /// `cells_before_k` of each `k` up to 26.
-    pub fn row_offsets(&self) -> [usize; 27]
-        ensures { (k : ℕ) → k ≤ 26 → slice_index result k ≡ cells_before_k self.now k }
+    /// `cells_before_k` of each `k` up to 26. It is looked up.
+    pub fn row_offsets(&self) -> &'static [usize; 27]
+        ensures { (k : ℕ) → k ≤ 26 → slice_index result.now k ≡ cells_before_k self.now k }
     {
-        offsets_up_to(self.top.t as usize)
+        let table = offsets();
+        &table[self.top.t as usize]
     }
 
     /// The cell at a place. It takes about as many steps as the frame has numbers `v` and `k`.
@@ -111,20 +113,6 @@ impl Frame {
     {
         numbers[self.index(c) as usize]
     }
-}
-
-// For each k up to 26, the number of cells with one v whose k is below it.
-fn offsets_up_to(t: usize) -> [usize; 27]
-    requires { t ≤ 8 }
-    ensures { (k : ℕ) → k ≤ 26 → slice_index result k ≡ before_k t k }
-{
-    let mut offsets = [0; 27];
-    let mut total = 0;
-    for k in 0..27 {
-        offsets[k] = total;
-        total += k.min(t) + 1;
-    }
-    offsets
 }
 
 // The v of the cell at a place, and the cell's place among those with that v.

@@ -9,6 +9,7 @@ mod frames;
 mod in_memory;
 mod laws;
 pub mod limits;
+mod offsets;
 mod points;
 mod rows;
 mod standard;

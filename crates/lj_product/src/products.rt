@@ -23,8 +23,8 @@ pub fn best_product(frame: Frame, bounds: &[u64], cell: Cell) -> Option<ProductC
     ensures none { (result ≡ None) ↔ (cell.v ≡ 1) }
 {
     let offsets = frame.row_offsets();
-    let (sides, _) = best_split(frame, bounds, &offsets, cell)?;
-    Some(choice_with(frame, bounds, &offsets, sides))
+    let (sides, _) = best_split(frame, bounds, offsets, cell)?;
+    Some(choice_with(frame, bounds, offsets, sides))
 }
 
 /// The price of `best_product`, without its parts, which it need not find.
@@ -35,7 +35,7 @@ pub fn best_product_price(frame: Frame, bounds: &[u64], cell: Cell) -> Option<u6
     ensures none { (result ≡ None) ↔ (cell.v ≡ 1) }
 {
     let offsets = frame.row_offsets();
-    let (_, price) = best_split(frame, bounds, &offsets, cell)?;
+    let (_, price) = best_split(frame, bounds, offsets, cell)?;
     Some(price)
 }
 
