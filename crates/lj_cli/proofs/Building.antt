@@ -6,7 +6,7 @@ use Rattle.std.proofs.lemmas.Bool.{cases_lt}
 use Rattle.std.proofs.lemmas.List.{drop_all, map-append, take_all, take_more}
 use Rattle.std.proofs.lemmas.Option.{IfSome_then}
 use Rattle.lj_base.specs.Bounds.{at_cell}
-use Rattle.lj_base.specs.Cells.{Triple}
+use Rattle.lj_base.specs.Cells.{IsCell, Triple}
 use Rattle.lj_base.specs.Frames.{Top, index_of, size_of}
 use Rattle.lj_base.specs.Streams.{Appends, Rose}
 use Rattle.lj_base.specs.declared.limits.TheConstants.{MAX_INPUT}
@@ -17,12 +17,13 @@ use Rattle.lj_script.specs.Scripts.{IsScript}
 use Rattle.lj_script.specs.Values.{ScriptValue, SectionValue}
 use Rattle.lj_script.specs.declared.faults.ScriptFault.{ScriptFault}
 use Rattle.lj_script.specs.declared.faults.ScriptFault.TheVariants.{Memory}
+use Rattle.lj_session.specs.AcceptedUploads.{AreAcceptedOfAll}
 use Rattle.lj_session.specs.declared.ends.SessionEnd.{SessionEnd}
 use Rattle.lj_table.specs.Tables.{Contents, state_of}
 use Rattle.lj_build.specs.Building.{IsWholeBuilt, Rests}
-use Rattle.lj_build.specs.Runs.{AreLeastBounds, IsBuildOutput, client_line, report_of, sections_text}
-use Rattle.lj_build.specs.Runs.{uploads_of}
-use Rattle.lj_cli.specs.BuildOutput.{IsBuildCommandOutput, replies_text, script_fault_line}
+use Rattle.lj_build.specs.Runs.{AreBuilt, AreLeastBounds, IsBuildOutput, IsReport, client_line, report_of}
+use Rattle.lj_build.specs.Runs.{sections_text, uploads_of}
+use Rattle.lj_cli.specs.BuildOutput.{EndsWithReport, IsBuildCommandOutput, replies_text, script_fault_line}
 use Rattle.lj_cli.specs.Ends.{Ends, HasOutput, Input, Output}
 use Rattle.lj_cli.specs.Running.{HasBuilt}
 use Rattle.lj_cli.specs.declared.status.TheConstants.{DONE, FAULTY, NO_MEMORY}
@@ -133,6 +134,42 @@ whole_text script json names ends t lent all start middle whole built count is s
       built.built,
       (t.bounds, least_bounds script.frame (uploads_of ends) t built.rests count, refl),
       j ∙ ap₂ (λ (text : List ℕ) (f : Top). text ++ report_of f json t.bounds) replies built.rests.frame,
+    )
+
+-- the texts of two builds of a script end with one report
+pub one_report : ((f : Top) (earlier : List Upload) (sections : List SectionValue) (ends : List SessionEnd)
+    → AreBuilt f earlier sections ends → AreAcceptedOfAll f sections (uploads_of ends))
+    → ((f : Top) (sections : List SectionValue) (us vs : List Upload) → AreAcceptedOfAll f sections us
+    → AreAcceptedOfAll f sections vs → us ≡ vs)
+    → ((f : Top) (us : List Upload) (json : Bool) (a b : List ℕ) → IsCell f.top → IsReport f us json a
+    → IsReport f us json b → a ≡ b)
+    → (script : ScriptValue) (json : Bool) (text other : List ℕ) → IsCell script.frame.top
+    → IsBuildOutput script json text → IsBuildOutput script json other
+    → (report : List ℕ) × EndsWithReport script json text report × EndsWithReport script json other report
+one_report accepted sections reports script json text other cell (ends, report, built, is, t)
+    (others, last, run, too, u) =
+    let f = script.frame in
+    let first = accepted f [] script.clients ends built in
+    let second = accepted f [] script.clients others run in
+    let same : uploads_of others ≡ uploads_of ends =
+    sections f script.clients (uploads_of others) (uploads_of ends) second first in
+    let also = subst (λ (us : List Upload). IsReport f us json last) same too in
+    let equal : last ≡ report = reports f (uploads_of ends) json last report cell also is in (
+      report,
+      record {
+        uploads = uploads_of ends;
+        accepted = first;
+        is_report = is;
+        front = sections_text script.clients ends;
+        text_is = t;
+      },
+      record {
+        uploads = uploads_of ends;
+        accepted = first;
+        is_report = is;
+        front = sections_text script.clients others;
+        text_is = u ∙ ap (λ (r : List ℕ). sections_text script.clients others ++ r) equal;
+      },
     )
 
 -- the line of a fault that is one of the bytes

@@ -5,9 +5,11 @@ use Rattle.std.proofs.lemmas.Bool.{both_ways}
 use Rattle.std.proofs.lemmas.Slice.Eq.{bytes_eq-Decides}
 use Rattle.lj_verify.specs.declared.limits.TheConstants.{MAX_WORKERS}
 use Rattle.lj_cli.specs.Given.{Arguments, IsFew, given_by}
-use Rattle.lj_cli.specs.GoodWords.{GoodWords, IsBuildCall, IsCall, IsCheckCall, IsGenCall, IsWorkers, TakesNumbers}
+use Rattle.lj_base.specs.Cells.{Triple}
+use Rattle.lj_cli.specs.GoodWords.{GoodWords, IsBuildCall, IsCall, IsCellCall, IsCheckCall, IsGenCall, IsWorkers}
+use Rattle.lj_cli.specs.GoodWords.{TakesNumbers}
 use Rattle.lj_cli.specs.declared.words.Call.{Call}
-use Rattle.lj_cli.specs.declared.words.Call.TheVariants.{Check, Build, Gen}
+use Rattle.lj_cli.specs.declared.words.Call.TheVariants.{Check, Build, Gen, Excess, Greedy, Reduce}
 use Rattle.lj_cli.specs.declared.words.CheckCall.{CheckCall}
 
 abbrev given : Arguments → Option Arguments → Arguments
@@ -18,11 +20,17 @@ abbrev command_name : Call → List ℕ
 command_name (Check call) = codes "check"
 command_name (Build json) = codes "build"
 command_name (Gen m) = codes "gen"
+command_name (Excess cell) = codes "excess"
+command_name (Greedy cell) = codes "greedy"
+command_name (Reduce cell) = codes "reduce"
 
 named : (name : List ℕ) (g : Arguments) (call : Call) → IsCall name g call → name ≡ command_name call
 named name g (Check call) h = h.0
 named name g (Build json) h = h.0
 named name g (Gen m) h = h.0
+named name g (Excess cell) h = h.0
+named name g (Greedy cell) h = h.0
+named name g (Reduce cell) h = h.0
 
 -- no name is two texts
 other_name : {a b name : List ℕ} → name ≡ a → name ≡ b → bytes_eq a b ≡ false → ⊥
@@ -49,6 +57,14 @@ one_check g h c d same call asks =
     let workers : c.workers ≡ d.workers = same_workers h.workers c.workers d.workers says asks.3 in
     λ i. record { cell = record { v = v i; k = k i; t = t i }; workers = workers i }
 
+one_cell : (g h : Arguments) (c d : Triple) → g ≡ h → IsCellCall g c → IsCellCall h d → c ≡ d
+one_cell g h c d same call asks =
+    let numbers = sym call.0 ∙ ap (λ (x : Arguments). x.numbers) same ∙ asks.0 in
+    let v : c.v ≡ d.v = ap (λ ns. get_or ns 0 0) numbers in
+    let k : c.k ≡ d.k = ap (λ ns. get_or ns 1 0) numbers in
+    let t : c.t ≡ d.t = ap (λ ns. get_or ns 2 0) numbers in
+    λ i. record { v = v i; k = k i; t = t i }
+
 one_build : (g h : Arguments) (a b : Bool) → g ≡ h → IsBuildCall g a → IsBuildCall h b → a ≡ b
 one_build g h a b same call asks = same_flag h.json a b (ap (λ (x : Arguments). x.json) (sym same) ∙ call.2) asks.2
 
@@ -61,6 +77,9 @@ one_of : (name : List ℕ) (g h : Arguments) (c d : Call) → g ≡ h → IsCall
 one_of name g h (Check c) (Check d) same call asks = ap Check (one_check g h c d same call.1 asks.1)
 one_of name g h (Build a) (Build b) same call asks = ap Build (one_build g h a b same call.1 asks.1)
 one_of name g h (Gen m) (Gen n) same call asks = ap Gen (one_gen g h m n same call.1 asks.1)
+one_of name g h (Excess c) (Excess d) same call asks = ap Excess (one_cell g h c d same call.1 asks.1)
+one_of name g h (Greedy c) (Greedy d) same call asks = ap Greedy (one_cell g h c d same call.1 asks.1)
+one_of name g h (Reduce c) (Reduce d) same call asks = ap Reduce (one_cell g h c d same call.1 asks.1)
 one_of name g h c d same call asks = absurd (other_name (named name g c call) (named name h d asks) refl)
 
 pub one_call : (words : List (List ℕ)) (c d : Call) → GoodWords words c → GoodWords words d → c ≡ d
@@ -79,6 +98,9 @@ numbers_of name g (Check call) h =
     let workers = some_workers g.workers call.workers h.1.3 in (h.1.2, workers.0, workers.1)
 numbers_of name g (Build json) h = tt
 numbers_of name g (Gen m) h = (h.1.1, h.1.2)
+numbers_of name g (Excess cell) h = h.1.2
+numbers_of name g (Greedy cell) h = h.1.2
+numbers_of name g (Reduce cell) h = h.1.2
 
 -- the numbers of a good call are those that it takes
 pub takes_numbers : (words : List (List ℕ)) (call : Call) → GoodWords words call → TakesNumbers call
@@ -93,6 +115,13 @@ few_workers (m ∷ (l ∷ ms)) n h = absurd h
 small_flag : (n : ℕ) (b : Bool) → n ≡ (if b then 1 else 0) → n ≤ 1
 small_flag n true h = omega (arith, h)
 small_flag n false h = omega (arith, h)
+
+few_for_cell : (g : Arguments) (cell : Triple) → IsCellCall g cell → IsFew g
+few_for_cell g cell h = (
+  omega (arith, ap (λ (ns : List ℕ). length ns) h.0),
+  omega (arith, ap (λ (ns : List ℕ). length ns) h.3),
+  omega (arith, h.4),
+)
 
 -- no command takes more
 few_of : (name : List ℕ) (g : Arguments) (call : Call) → IsCall name g call → IsFew g
@@ -111,6 +140,9 @@ few_of name g (Gen m) h = (
   omega (arith, ap (λ (ns : List ℕ). length ns) h.1.3),
   omega (arith, h.1.4),
 )
+few_of name g (Excess cell) h = few_for_cell g cell h.1
+few_of name g (Greedy cell) h = few_for_cell g cell h.1
+few_of name g (Reduce cell) h = few_for_cell g cell h.1
 
 -- words that give more than a command takes call for none, whatever else is returned
 pub none_few : (name : List ℕ) (words : List (List ℕ)) → IfSome (given_by words) (λ g. IsFew g → ⊥)

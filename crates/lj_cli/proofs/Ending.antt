@@ -5,8 +5,8 @@ use Rattle.std.proofs.Common.{◌++◌, append-nil, inl, inr, length-append, ⊎
 use Rattle.std.proofs.lemmas.Option.{IfSome_then}
 use Rattle.lj_base.specs.Streams.{Appends, Consumes, IsAtEnd, Rose}
 use Rattle.lj_base.specs.declared.limits.TheConstants.{MAX_INPUT}
-use Rattle.lj_cli.specs.Ends.{Ends, EndsUnread, EndsWithUsage, HasOutput, Input, Output, Prints, PrintsNothing}
-use Rattle.lj_cli.specs.Ends.{too_large_text, usage_text}
+use Rattle.lj_cli.specs.Ends.{Ends, EndsUnread, EndsWithOutput, EndsWithText, EndsWithUsage, HasOutput, Input}
+use Rattle.lj_cli.specs.Ends.{IsComplete, Output, Prints, PrintsNothing, too_large_text, usage_text}
 use Rattle.lj_cli.specs.declared.status.TheConstants.{BAD_WORDS, DONE, NO_MEMORY, TOO_LARGE}
 
 -- no write failed: the text was printed with its status
@@ -62,7 +62,7 @@ LargeEnds i o ended all = MAX_INPUT < length all → (Rose i.faults i.faults_now
     → (Rose o.faults o.faults_now → ⊥)
     → ((ended ≡ TOO_LARGE) × Appends o.written o.written_now too_large_text) ⊎ (ended ≡ NO_MEMORY)
 
-pub large : (output : List ℕ → List ℕ → ℕ → Type 0) (i : Input) (o : Output) (ended : ℕ) → Ends output i o ended
+large : (output : List ℕ → List ℕ → ℕ → Type 0) (i : Input) (o : Output) (ended : ℕ) → Ends output i o ended
     → IfSome i.left (LargeEnds i o ended)
 large output i o ended (inl h) =
     let within = h.read.within in
@@ -77,13 +77,30 @@ large output i o ended (inr (inr (inl h))) =
 large output i o ended (inr (inr (inr h))) =
     everywhere i.left (LargeEnds i o ended) (λ all more quiet calm. inr h.status)
 
+pub complete : (output : List ℕ → List ℕ → ℕ → Type 0) (i : Input) (o : Output) (ended : ℕ) → Ends output i o ended
+    → IsComplete output i o ended
+complete output i o ended h = record { small = small output i o ended h; large = large output i o ended h }
+
 -- a text that needs no input is printed whole, unless memory runs out
-pub unread : (text : List ℕ) (i : Input) (o : Output) (ended : ℕ) → EndsUnread text i o ended
+pub unread : (text : List ℕ) (i : Input) (o : Output) (ended : ℕ) → EndsUnread (EndsWithText text) i o ended
     → (Rose o.faults o.faults_now → ⊥)
     → ((ended ≡ DONE) × Appends o.written o.written_now text) ⊎ (ended ≡ NO_MEMORY)
 unread text i o ended h calm = ⊎_elim
     (λ (out : Prints o text DONE ended). inl (printed o text DONE ended out calm))
     (λ (none : PrintsNothing o ended). inr none.status) h.ends
+
+whole_output : (output : List ℕ → ℕ → Type 0) (o : Output) (ended : ℕ) → EndsWithOutput output o ended
+    → (Rose o.faults o.faults_now → ⊥)
+    → ((text : List ℕ) × output text ended × Appends o.written o.written_now text) ⊎ (ended ≡ NO_MEMORY)
+whole_output output o ended (inl (text, status, is, out)) calm =
+    let done = printed o text status ended out calm in
+    inl (text, subst (λ n. output text n) (sym done.0) is, done.1)
+whole_output output o ended (inr none) calm = inr none.status
+
+pub unread_output : (output : List ℕ → ℕ → Type 0) (i : Input) (o : Output) (ended : ℕ)
+    → EndsUnread (EndsWithOutput output) i o ended → (Rose o.faults o.faults_now → ⊥)
+    → ((text : List ℕ) × output text ended × Appends o.written o.written_now text) ⊎ (ended ≡ NO_MEMORY)
+unread_output output i o ended h calm = whole_output output o ended h.ends calm
 
 pub usage : (i : Input) (o : Output) (ended : ℕ) → EndsWithUsage i o ended → (Rose o.faults o.faults_now → ⊥)
     → (ended ≡ BAD_WORDS) × Appends o.written o.written_now usage_text

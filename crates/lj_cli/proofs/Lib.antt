@@ -3,3 +3,4 @@ pub mod Calls
 pub mod Building
 pub mod Ending
 pub mod OneOutput
+pub mod Counting

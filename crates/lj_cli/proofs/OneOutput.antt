@@ -13,7 +13,7 @@ use Rattle.lj_cli.specs.Verdicts.{verdict_status, verdict_text}
 use Rattle.lj_cli.specs.declared.verdicts.Verdict.{Verdict}
 use Rattle.lj_cli.specs.declared.verdicts.Verdict.TheVariants.{Fault, Refused, Covered}
 
-not_memory : (r : Refusal) → IsInputRefusal r → r ≡ Memory → ⊥
+pub not_memory : (r : Refusal) → IsInputRefusal r → r ≡ Memory → ⊥
 not_memory r h e = subst IsInputRefusal e h
 
 module _ (lists : (body : List ℕ) (v k : ℕ) (bs cs : List (List ℕ)) → AreBlocksOf body v k bs → AreBlocksOf body v k cs

@@ -1,14 +1,16 @@
 -- What a build prints for an input, and the status that it ends with.
 use Rattle.std.specs.Prelude.{◌≡◌, ℕ, ◌⊎◌, Bool, List, [], ◌∷◌, ◌++◌, codes}
 use Rattle.lj_text.specs.Fields.{named}
+use Rattle.lj_cover.specs.Rules.{Upload}
 use Rattle.lj_script.specs.Faults.{IsScriptFault}
 use Rattle.lj_script.specs.Scripts.{IsScript}
 use Rattle.lj_script.specs.Values.{ScriptValue}
 use Rattle.lj_script.specs.declared.faults.ScriptFault.{ScriptFault}
 use Rattle.lj_script.specs.declared.faults.ScriptFault.TheVariants.{NoFrame, BadLine, BadFrame, Unended, TooManyClients}
 use Rattle.lj_script.specs.declared.faults.ScriptFault.TheVariants.{TooManyCommands, Memory}
+use Rattle.lj_session.specs.AcceptedUploads.{AreAcceptedOfAll}
 use Rattle.lj_session.specs.declared.ends.SessionEnd.{SessionEnd}
-use Rattle.lj_build.specs.Runs.{IsBuildOutput, client_line}
+use Rattle.lj_build.specs.Runs.{IsBuildOutput, IsReport, client_line}
 use Rattle.lj_cli.specs.declared.status.TheConstants.{DONE, FAULTY}
 
 -- the number of a line, and what is wrong with it
@@ -47,6 +49,14 @@ pub record IsFaulted (bytes text : List ℕ) (status : ℕ) : Type 0 where
   pub found : IsScriptFault bytes fault
   pub line : text ≡ script_fault_line fault
   pub faulty : status ≡ FAULTY
+
+-- the text ends with the closing report of the uploads that are accepted of the script
+pub record EndsWithReport (script : ScriptValue) (json : Bool) (text report : List ℕ) : Type 0 where
+  pub uploads : List Upload
+  pub accepted : AreAcceptedOfAll script.frame script.clients uploads
+  pub is_report : IsReport script.frame uploads json report
+  pub front : List ℕ
+  pub text_is : text ≡ front ++ report
 
 -- the text and the status of a build of these bytes, with its report as text or as JSON
 abbrev pub IsBuildCommandOutput : Bool → List ℕ → List ℕ → ℕ → Type 0

@@ -1,11 +1,11 @@
 -- Which words call for which command.
 use Rattle.std.specs.Prelude.{◌≡◌, ℕ, ◌≤◌, Bool, if◌then◌else◌, List, [], ◌∷◌, Some, map, codes, String, string_bytes}
 use Rattle.std.specs.Global.{Global}
-use Rattle.lj_base.specs.Cells.{IsCell}
+use Rattle.lj_base.specs.Cells.{IsCell, Triple}
 use Rattle.lj_verify.specs.declared.limits.TheConstants.{MAX_WORKERS}
 use Rattle.lj_cli.specs.Given.{Arguments, given_by}
 use Rattle.lj_cli.specs.declared.words.Call.{Call}
-use Rattle.lj_cli.specs.declared.words.Call.TheVariants.{Check, Build, Gen}
+use Rattle.lj_cli.specs.declared.words.Call.TheVariants.{Check, Build, Gen, Excess, Greedy, Reduce}
 use Rattle.lj_cli.specs.declared.words.CheckCall.{CheckCall}
 
 abbrev pub texts : List (String Global) → List (List ℕ)
@@ -23,6 +23,11 @@ IsCheckCall g call = let cell = call.cell in
     (g.numbers ≡ cell.v ∷ cell.k ∷ cell.t ∷ []) × IsCell cell × (1 ≤ cell.k)
     × IsWorkers g.workers call.workers × (g.json ≡ 0)
 
+-- V K T, for a command that takes a cell and nothing else
+abbrev pub IsCellCall : Arguments → Triple → Type 0
+IsCellCall g cell = (g.numbers ≡ cell.v ∷ cell.k ∷ cell.t ∷ []) × IsCell cell × (1 ≤ cell.k)
+    × (g.workers ≡ []) × (g.json ≡ 0)
+
 -- build [--json]
 abbrev pub IsBuildCall : Arguments → Bool → Type 0
 IsBuildCall g json = (g.numbers ≡ []) × (g.workers ≡ []) × (g.json ≡ (if json then 1 else 0))
@@ -36,6 +41,9 @@ abbrev pub IsCall : List ℕ → Arguments → Call → Type 0
 IsCall name g (Check call) = (name ≡ codes "check") × IsCheckCall g call
 IsCall name g (Build json) = (name ≡ codes "build") × IsBuildCall g json
 IsCall name g (Gen m) = (name ≡ codes "gen") × IsGenCall g m
+IsCall name g (Excess cell) = (name ≡ codes "excess") × IsCellCall g cell
+IsCall name g (Greedy cell) = (name ≡ codes "greedy") × IsCellCall g cell
+IsCall name g (Reduce cell) = (name ≡ codes "reduce") × IsCellCall g cell
 
 -- these words call for this command
 abbrev pub GoodWords : List (List ℕ) → Call → Type 0
@@ -47,3 +55,6 @@ abbrev pub TakesNumbers : Call → Type 0
 TakesNumbers (Check call) = (1 ≤ call.cell.k) × (1 ≤ call.workers) × (call.workers ≤ MAX_WORKERS)
 TakesNumbers (Build json) = Unit {0}
 TakesNumbers (Gen m) = (2 ≤ m) × (m ≤ 6)
+TakesNumbers (Excess cell) = 1 ≤ cell.k
+TakesNumbers (Greedy cell) = 1 ≤ cell.k
+TakesNumbers (Reduce cell) = 1 ≤ cell.k

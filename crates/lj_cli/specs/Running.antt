@@ -6,15 +6,19 @@ use Rattle.lj_gen.specs.Generated.{gen_text}
 use Rattle.lj_script.specs.Values.{ScriptValue}
 use Rattle.lj_cli.specs.BuildOutput.{IsBuildCommandOutput}
 use Rattle.lj_cli.specs.CheckOutput.{IsCheckOutput}
-use Rattle.lj_cli.specs.Ends.{Ends, EndsUnread, Input, Output}
+use Rattle.lj_cli.specs.CountOutput.{IsExcessOutput, IsGreedyOutput, IsReduceOutput}
+use Rattle.lj_cli.specs.Ends.{Ends, EndsUnread, EndsWithOutput, EndsWithText, Input, Output}
 use Rattle.lj_cli.specs.declared.status.TheConstants.{DONE}
 use Rattle.lj_cli.specs.declared.words.Call.{Call}
-use Rattle.lj_cli.specs.declared.words.Call.TheVariants.{Check, Build, Gen}
+use Rattle.lj_cli.specs.declared.words.Call.TheVariants.{Check, Build, Gen, Excess, Greedy, Reduce}
 
 abbrev pub EndsAs : Call → Input → Output → ℕ → Type 0
 EndsAs (Check call) i o ended = Ends (IsCheckOutput call.cell) i o ended
 EndsAs (Build json) i o ended = Ends (IsBuildCommandOutput json) i o ended
-EndsAs (Gen m) i o ended = EndsUnread (gen_text m) i o ended
+EndsAs (Gen m) i o ended = EndsUnread (EndsWithText (gen_text m)) i o ended
+EndsAs (Excess cell) i o ended = Ends (IsExcessOutput cell) i o ended
+EndsAs (Greedy cell) i o ended = EndsUnread (EndsWithOutput (IsGreedyOutput cell)) i o ended
+EndsAs (Reduce cell) i o ended = Ends (IsReduceOutput cell) i o ended
 
 -- a text that the script comes to was written whole, and the run ended well
 abbrev pub HasBuilt : ScriptValue → Bool → Output → ℕ → Type 0

@@ -2,13 +2,13 @@ ghost use Rattle.std.specs.Prelude.{IfOk};
 ghost use Rattle.lj_cli.specs.BuildOutput.{IsBuildCommandOutput};
 ghost use Rattle.lj_cli.specs.Ends.{Ends, input_of, output_of};
 
-use crate::prints::{print, print_too_large};
+use crate::prints::{Made, end_early, print};
 use crate::replies::built_text;
 use crate::script_faults::script_fault_line;
-use crate::status::{DONE, FAULTY, NO_MEMORY, READ_FAILED};
+use crate::status::{DONE, FAULTY, NO_MEMORY};
 use lj_base::{MAX_INPUT, Memory, Sink, Source};
 use lj_script::{ScriptFault, read_script};
-use lj_text::{ReadFail, read_all};
+use lj_text::read_all;
 use std::alloc::Global;
 use std::thread::Threads;
 
@@ -26,21 +26,12 @@ pub fn build_run<R: Threads + Sync, S: Source, K: Sink>(
 {
     let bytes = match read_all(alloc, input, MAX_INPUT) {
         Ok(bytes) => bytes,
-        Err(ReadFail::ReadFault { .. }) => return READ_FAILED,
-        Err(ReadFail::TooLarge) => return print_too_large(out),
-        Err(ReadFail::Memory) => return NO_MEMORY,
+        Err(fail) => return end_early(out, fail),
     };
     match build_output(rt, alloc, json, &bytes) {
         Ok(made) => print(out, &made.text, made.status),
         Err(Memory) => NO_MEMORY,
     }
-}
-
-// A text to print, and the status to end with.
-#[derive(Drop)]
-struct Made {
-    text: Vec<u8>,
-    status: u8,
 }
 
 // What the bytes of a script come to, or why they are none.

@@ -2,12 +2,12 @@ ghost use Rattle.std.specs.Prelude.{◌≤◌, IfOk};
 ghost use Rattle.lj_cli.specs.CheckOutput.{IsCheckOutput, IsVerdict};
 ghost use Rattle.lj_cli.specs.Ends.{Ends, input_of, output_of};
 
-use crate::prints::{print, print_too_large};
-use crate::status::{NO_MEMORY, READ_FAILED};
+use crate::prints::{end_early, print};
+use crate::status::NO_MEMORY;
 use crate::verdicts::Verdict;
 use lj_base::{Cell, MAX_INPUT, Memory, Sink, Source};
 use lj_blockfile::{BodyFault, read_blocks};
-use lj_text::{ReadFail, read_all};
+use lj_text::read_all;
 use lj_verify::{MAX_WORKERS, Refusal, check};
 use std::alloc::Global;
 use std::thread::Threads;
@@ -29,9 +29,7 @@ pub fn check_run<R: Threads + Sync, S: Source, K: Sink>(
 {
     let bytes = match read_all(alloc, input, MAX_INPUT) {
         Ok(bytes) => bytes,
-        Err(ReadFail::ReadFault { .. }) => return READ_FAILED,
-        Err(ReadFail::TooLarge) => return print_too_large(out),
-        Err(ReadFail::Memory) => return NO_MEMORY,
+        Err(fail) => return end_early(out, fail),
     };
     let Ok(verdict) = verdict(rt, alloc, cell, workers, &bytes) else {
         return NO_MEMORY;

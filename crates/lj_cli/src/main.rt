@@ -1,13 +1,18 @@
 //! The program `ljcr`: checks whether blocks cover every set of points of a cell, replies to the clients of a script
-//! with the least bounds that follow from their uploads, and writes generated scripts.
+//! with the least bounds that follow from their uploads, writes generated scripts, counts the sets of coverings, makes
+//! coverings, and removes spare blocks.
 #![tactic(auto)]
 
 mod build;
 mod check;
+mod coverings;
+mod excess;
 mod generate;
 mod given;
+mod greedy;
 mod laws;
 mod prints;
+mod reduce;
 mod replies;
 #[cfg(test)]
 mod rows;
@@ -19,10 +24,16 @@ mod words;
 
 pub use build::build_run;
 pub use check::check_run;
+pub use excess::excess_run;
 pub use generate::gen_run;
 pub use given::{Given, read_given};
-pub use laws::{build_complete_law, build_output_law, complete_law, output_law, words_law};
+pub use greedy::greedy_run;
+pub use laws::{
+    build_complete_law, build_output_law, complete_law, count_law, count_output_law, output_law,
+    words_law,
+};
 use lj_base::{StdSink, StdSource};
+pub use reduce::reduce_run;
 pub use status::{
     BAD_WORDS, DONE, FAULTY, NO_MEMORY, NO_WORDS, READ_FAILED, TOO_LARGE, UNCOVERED, WRITE_FAILED,
 };

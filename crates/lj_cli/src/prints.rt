@@ -1,8 +1,17 @@
-ghost use Rattle.lj_cli.specs.Ends.{Prints, output_of, too_large_text, usage_text};
+ghost use Rattle.lj_base.specs.declared.limits.TheConstants.{MAX_INPUT};
+ghost use Rattle.lj_text.specs.Inputs.{HasCause};
+ghost use Rattle.lj_cli.specs.Ends.{EndsEarly, Prints, output_of, too_large_text, usage_text};
 
-use crate::status::{BAD_WORDS, TOO_LARGE, WRITE_FAILED};
+use crate::status::{BAD_WORDS, NO_MEMORY, READ_FAILED, TOO_LARGE, WRITE_FAILED};
 use lj_base::Sink;
-use lj_text::write_all;
+use lj_text::{ReadFail, write_all};
+
+// A text to print, and the status to end with.
+#[derive(Drop)]
+pub(crate) struct Made {
+    pub text: Vec<u8>,
+    pub status: u8,
+}
 
 // Prints the text. Returns the status that it is given, or that writing failed.
 pub(crate) fn print<K: Sink>(out: &mut K, text: &[u8], status: u8) -> u8
@@ -14,7 +23,19 @@ pub(crate) fn print<K: Sink>(out: &mut K, text: &[u8], status: u8) -> u8
     }
 }
 
-pub(crate) fn print_too_large<K: Sink>(out: &mut K) -> u8
+// Ends where not all of an input was read. Returns the status.
+pub(crate) fn end_early<K: Sink>(out: &mut K, fail: ReadFail) -> u8
+    ensures { (i : _) → HasCause MAX_INPUT i.left i.left_now i.faults i.faults_now fail →
+        EndsEarly i (output_of K.written K.faults out.old out.new) result }
+{
+    match fail {
+        ReadFail::ReadFault { .. } => READ_FAILED,
+        ReadFail::TooLarge => print_too_large(out),
+        ReadFail::Memory => NO_MEMORY,
+    }
+}
+
+fn print_too_large<K: Sink>(out: &mut K) -> u8
     ensures { Prints (output_of K.written K.faults out.old out.new) too_large_text TOO_LARGE result }
 {
     print(out, b"fault input too large\n", TOO_LARGE)
@@ -26,7 +47,8 @@ pub(crate) fn print_usage<K: Sink>(out: &mut K) -> u8
 {
     print(
         out,
-        b"usage: ljcr check V K T [--workers N] | build [--json] | gen M\n",
+        b"usage: ljcr check V K T [--workers N] | build [--json] | gen M | excess V K T \
+        | greedy V K T | reduce V K T\n",
         BAD_WORDS,
     )
 }

@@ -163,7 +163,9 @@ fn words_are_good_or_end_with_the_usage_line(rt: HostRuntime) -> Result<(), Fail
         let (status, sink) = run(&rt, rt.alloc(), line, FOUR)?;
         assert_eq!(rt;
             sink.bytes(),
-            b"usage: ljcr check V K T [--workers N] | build [--json] | gen M\n".as_slice(),
+            b"usage: ljcr check V K T [--workers N] | build [--json] | gen M | excess V K T \
+            | greedy V K T | reduce V K T\n"
+                .as_slice(),
             "of {line}"
         );
         assert_eq!(rt; status, 2, "of {line}");

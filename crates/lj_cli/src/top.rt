@@ -1,14 +1,19 @@
 ghost use Rattle.lj_gen.specs.Generated.{gen_text};
 ghost use Rattle.lj_cli.specs.BuildOutput.{IsBuildCommandOutput};
 ghost use Rattle.lj_cli.specs.CheckOutput.{IsCheckOutput};
-ghost use Rattle.lj_cli.specs.Ends.{Ends, EndsUnread, EndsWithUsage, input_of, output_of};
+ghost use Rattle.lj_cli.specs.CountOutput.{IsExcessOutput, IsGreedyOutput, IsReduceOutput};
+ghost use Rattle.lj_cli.specs.Ends.{Ends, EndsUnread, EndsWithOutput, EndsWithText, EndsWithUsage, input_of};
+ghost use Rattle.lj_cli.specs.Ends.{output_of};
 ghost use Rattle.lj_cli.specs.GoodWords.{GoodWords, TakesNumbers, texts};
 ghost use Rattle.lj_cli.specs.Running.{EndsAs};
 
 use crate::build::build_run;
 use crate::check::check_run;
+use crate::excess::excess_run;
 use crate::generate::gen_run;
+use crate::greedy::greedy_run;
 use crate::prints::print_usage;
+use crate::reduce::reduce_run;
 use crate::words::{Call, read_words};
 use lj_base::{Sink, Source};
 use std::alloc::Global;
@@ -34,7 +39,22 @@ pub fn ljcr<R: Threads + Sync, S: Source, K: Sink>(
 
     // Words that call for a generated script end with it, and nothing is read.
     ensures generated { (m : _) → GoodWords (texts words.now) (Call.Gen m) →
-        EndsUnread (gen_text m) (input_of S.left S.faults input.old input.new)
+        EndsUnread (EndsWithText (gen_text m)) (input_of S.left S.faults input.old input.new)
+        (output_of K.written K.faults out.old out.new) result }
+
+    // Words that call for the excess of a covering end with its sums, or with why the input is no covering.
+    ensures excess { (cell : _) → GoodWords (texts words.now) (Call.Excess cell) →
+        Ends (IsExcessOutput cell) (input_of S.left S.faults input.old input.new)
+        (output_of K.written K.faults out.old out.new) result }
+
+    // Words that call for a greedy covering end with it, or with the number of sets that are too many; nothing is read.
+    ensures greedy { (cell : _) → GoodWords (texts words.now) (Call.Greedy cell) →
+        EndsUnread (EndsWithOutput (IsGreedyOutput cell)) (input_of S.left S.faults input.old input.new)
+        (output_of K.written K.faults out.old out.new) result }
+
+    // Words that call for a covering without spare blocks end with it, or with why the input is no covering.
+    ensures reduced { (cell : _) → GoodWords (texts words.now) (Call.Reduce cell) →
+        Ends (IsReduceOutput cell) (input_of S.left S.faults input.old input.new)
         (output_of K.written K.faults out.old out.new) result }
 
     // Words that call for no command end with the usage line.
@@ -64,5 +84,8 @@ fn run_call<R: Threads + Sync, S: Source, K: Sink>(
         Call::Check(check) => check_run(rt, alloc, check.cell, check.workers, input, out),
         Call::Build { json } => build_run(rt, alloc, json, input, out),
         Call::Gen { m } => gen_run(alloc, m, out),
+        Call::Excess { cell } => excess_run(rt, alloc, cell, input, out),
+        Call::Greedy { cell } => greedy_run(alloc, cell, out),
+        Call::Reduce { cell } => reduce_run(rt, alloc, cell, input, out),
     }
 }

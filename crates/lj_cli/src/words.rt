@@ -1,5 +1,5 @@
 ghost use Rattle.std.specs.Prelude.{IfNone, IfSome};
-ghost use Rattle.lj_cli.specs.GoodWords.{GoodWords, IsBuildCall, IsCall, IsCheckCall, IsGenCall, texts};
+ghost use Rattle.lj_cli.specs.GoodWords.{GoodWords, IsBuildCall, IsCall, IsCellCall, IsCheckCall, IsGenCall, texts};
 
 use crate::given::{Given, read_given};
 use lj_base::Cell;
@@ -20,6 +20,12 @@ pub enum Call {
     Build { json: bool },
     /// Prints the generated script of `2 ^ m` points.
     Gen { m: u64 },
+    /// Prints by how much the blocks of the input exceed a covering of each set once.
+    Excess { cell: Cell },
+    /// Prints the greedy covering of the cell.
+    Greedy { cell: Cell },
+    /// Prints the blocks of the input without the spare ones.
+    Reduce { cell: Cell },
 }
 
 /// The command that the words after the program's name call for.
@@ -46,6 +52,15 @@ fn call_of(name: &str, given: &Given) -> Option<Call>
     } else if name == "gen" {
         let m = gen_call(given)?;
         Some(Call::Gen { m })
+    } else if name == "excess" {
+        let cell = cell_call(given)?;
+        Some(Call::Excess { cell })
+    } else if name == "greedy" {
+        let cell = cell_call(given)?;
+        Some(Call::Greedy { cell })
+    } else if name == "reduce" {
+        let cell = cell_call(given)?;
+        Some(Call::Reduce { cell })
     } else {
         None
     }
@@ -63,6 +78,22 @@ fn check_call(given: &Given) -> Option<CheckCall>
     let workers = given.workers().unwrap_or(1);
     if cell.k >= 1 && 1 <= workers && workers <= MAX_WORKERS && !given.json() {
         Some(CheckCall { cell, workers })
+    } else {
+        None
+    }
+}
+
+// V K T
+fn cell_call(given: &Given) -> Option<Cell>
+    ensures good { IfSome result (IsCellCall given.now) }
+    ensures bad { IfNone result ((cell : _) → IsCellCall given.now cell → ⊥) }
+{
+    let [v, k, t] = given.numbers() else {
+        return None;
+    };
+    let cell = Cell::new(*v, *k, *t).ok()?;
+    if cell.k >= 1 && given.workers().is_none() && !given.json() {
+        Some(cell)
     } else {
         None
     }

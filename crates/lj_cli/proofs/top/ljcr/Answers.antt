@@ -1,6 +1,6 @@
 use Rattle.std.proofs.Common.{◌≡◌, rules}
 use Rattle.lj_cli.specs.GoodWords.{texts}
-use Rattle.lj_cli.specs.declared.words.Call.TheVariants.{Check, Build, Gen}
+use Rattle.lj_cli.specs.declared.words.Call.TheVariants.{Check, Build, Gen, Excess, Greedy, Reduce}
 use Rattle.lj_cli.proofs.Calls.{one_call, takes_numbers}
 use Rattle.lj_cli.proofs.top.ljcr.Goals as goal
 
@@ -24,4 +24,22 @@ pub returns-in-Some-clause-generated : goal.returns-in-Some-clause-generated
 returns-in-Some-clause-generated g c m good =
     let same : c.in-Some.call ≡ Gen m = one_call
     (texts c.args.words.now) c.in-Some.call (Gen m) c.in-Some.ensures.good good in
+    rw same at c.run_call.ensures
+
+pub returns-in-Some-clause-excess : goal.returns-in-Some-clause-excess
+returns-in-Some-clause-excess g c cell good =
+    let same : c.in-Some.call ≡ Excess cell = one_call
+    (texts c.args.words.now) c.in-Some.call (Excess cell) c.in-Some.ensures.good good in
+    rw same at c.run_call.ensures
+
+pub returns-in-Some-clause-greedy : goal.returns-in-Some-clause-greedy
+returns-in-Some-clause-greedy g c cell good =
+    let same : c.in-Some.call ≡ Greedy cell = one_call
+    (texts c.args.words.now) c.in-Some.call (Greedy cell) c.in-Some.ensures.good good in
+    rw same at c.run_call.ensures
+
+pub returns-in-Some-clause-reduced : goal.returns-in-Some-clause-reduced
+returns-in-Some-clause-reduced g c cell good =
+    let same : c.in-Some.call ≡ Reduce cell = one_call
+    (texts c.args.words.now) c.in-Some.call (Reduce cell) c.in-Some.ensures.good good in
     rw same at c.run_call.ensures

@@ -19,3 +19,22 @@ returns-in-Build g c = rw c.in-Build.is c.build_run.ensures
 
 pub returns-in-Gen : goal.returns-in-Gen
 returns-in-Gen g c = rw c.in-Gen.is (record { ends = c.gen_run.ensures; nothing = refl; no_fault = refl })
+
+pub excess_run-requires : goal.excess_run-requires
+excess_run-requires g c = (search rules, rw c.in-Excess.is at c.requires)
+
+pub greedy_run-requires : goal.greedy_run-requires
+greedy_run-requires g c = rw c.in-Greedy.is at c.requires
+
+pub reduce_run-requires : goal.reduce_run-requires
+reduce_run-requires g c = (search rules, rw c.in-Reduce.is at c.requires)
+
+pub returns-in-Excess : goal.returns-in-Excess
+returns-in-Excess g c = rw c.in-Excess.is c.excess_run.ensures
+
+pub returns-in-Greedy : goal.returns-in-Greedy
+returns-in-Greedy g c =
+    rw c.in-Greedy.is (record { ends = c.greedy_run.ensures; nothing = refl; no_fault = refl })
+
+pub returns-in-Reduce : goal.returns-in-Reduce
+returns-in-Reduce g c = rw c.in-Reduce.is c.reduce_run.ensures

@@ -1,0 +1,111 @@
+ghost use Rattle.std.specs.Prelude.{◌≡◌, ◌<◌, ◌++◌, ◌≤◌, IfOk, OnOk, length};
+ghost use Rattle.lj_base.specs.Colex.{choose};
+ghost use Rattle.lj_cli.specs.CountOutput.{IsExcessOutput, excess_text, number_line};
+ghost use Rattle.lj_cli.specs.Ends.{Ends, input_of, output_of};
+ghost use Rattle.lj_excess.specs.Multiplicities.{tally_of};
+
+use crate::coverings::{ReadCovering, read_covering};
+use crate::prints::{Made, end_early, print};
+use crate::status::{DONE, NO_MEMORY};
+use lj_base::{COST_LIMIT, Cell, MAX_BLOCKS, MAX_INPUT, Memory, Sink, Source, binom};
+use lj_cover::Design;
+use lj_excess::{CountFail, Counts, MAX_COUNTS};
+use lj_schonheim::schonheim;
+use lj_text::{put, put_named, read_all};
+use std::alloc::Global;
+use std::thread::Threads;
+
+/// Reads blocks from `input` and prints to `out` by how much they exceed a covering of each set once, or why they are
+/// no covering whose sets can be counted. Returns the status.
+pub fn excess_run<R: Threads + Sync, S: Source, K: Sink>(
+    rt: &R,
+    alloc: Global,
+    cell: Cell,
+    input: &mut S,
+    out: &mut K,
+) -> u8
+    requires { 1 ≤ cell.k }
+    ensures { Ends (IsExcessOutput cell) (input_of S.left S.faults input.old input.new)
+        (output_of K.written K.faults out.old out.new) result }
+{
+    let bytes = match read_all(alloc, input, MAX_INPUT) {
+        Ok(bytes) => bytes,
+        Err(fail) => return end_early(out, fail),
+    };
+    match excess_output(rt, alloc, cell, &bytes) {
+        Ok(made) => print(out, &made.text, made.status),
+        Err(Memory) => NO_MEMORY,
+    }
+}
+
+// What the bytes of a covering come to, or why they are none.
+fn excess_output<R: Threads + Sync>(
+    rt: &R,
+    alloc: Global,
+    cell: Cell,
+    bytes: &[u8],
+) -> Result<Made, Memory>
+    requires { 1 ≤ cell.k }
+    ensures { IfOk result (λ made. IsExcessOutput cell bytes.now made.text.items made.status) }
+{
+    match read_covering(rt, alloc, cell, bytes)? {
+        ReadCovering::NoCovering { verdict } => {
+            let text = verdict.text(alloc)?;
+            let status = verdict.status();
+            Ok(Made { text, status })
+        }
+        ReadCovering::Covering { design } => {
+            let text = sums_text(alloc, &design)?;
+            Ok(Made { text, status: DONE })
+        }
+    }
+}
+
+// The lines of a covering's sums.
+fn sums_text(alloc: Global, design: &Design) -> Result<Vec<u8>, Memory>
+    requires few { choose design.now.cell.v design.now.cell.t ≤ MAX_COUNTS }
+    requires short { length design.now.blocks ≤ MAX_BLOCKS }
+    ensures { IfOk result (λ text. text.items ≡ excess_text design.now.cell design.now.blocks) }
+{
+    let counts = counts_of(alloc, design)?;
+    let cell = design.cell();
+    let blocks = design.blocks().len() as u64;
+    let mut text = Vec::new(alloc);
+    put_line(&mut text, b"blocks", blocks)?;
+    put_line(&mut text, b"schonheim", schonheim(cell))?;
+    put_line(&mut text, b"tsets", counts.sets())?;
+    put_line(&mut text, b"marks", blocks * block_sets(cell))?;
+    put_line(&mut text, b"excess", counts.excess())?;
+    put_line(&mut text, b"once", counts.once())?;
+    put_line(&mut text, b"most", u64::from(counts.most()))?;
+    Ok(text)
+}
+
+// The counts of a covering with few enough sets.
+fn counts_of(alloc: Global, design: &Design) -> Result<Counts, Memory>
+    requires few { choose design.now.cell.v design.now.cell.t ≤ MAX_COUNTS }
+    requires short { length design.now.blocks ≤ MAX_BLOCKS }
+    ensures { IfOk result (λ counts. counts ≡ tally_of design.now.blocks design.now.cell) }
+{
+    match Counts::of(alloc, design) {
+        Ok(counts) => Ok(counts),
+        Err(CountFail::Memory) => Err(Memory),
+        Err(CountFail::TSets { .. }) => unreachable!(),
+    }
+}
+
+// The number of sets of a block.
+fn block_sets(cell: Cell) -> u64
+    ensures value { result ≡ choose cell.k cell.t }
+    ensures small { result < COST_LIMIT }
+{
+    binom(cell.k as u64, cell.t as u64)
+}
+
+// Appends a word, a number and the end of the line.
+fn put_line(out: &mut Vec<u8>, word: &[u8], n: u64) -> Result<(), Memory>
+    ensures { OnOk result (out.new.items ≡ out.old.items ++ number_line word.now n) }
+{
+    put_named(out, word, &[n])?;
+    put(out, b"\n")
+}
