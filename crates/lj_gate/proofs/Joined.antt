@@ -1,26 +1,24 @@
 -- What holds of passes that see less and less, and of the ends of clients whose passes are joined.
-use Rattle.std.proofs.Common.{◌≡◌, ℕ, zero, suc, ◌<◌, ◌≤◌, List, [], ◌∷◌, ◌++◌, get_or, map, refl, sym, ◌∙◌, subst}
+use Rattle.std.proofs.Common.{◌≡◌, ℕ, zero, suc, ◌<◌, List, [], ◌∷◌, ◌++◌, get_or, map, refl, sym, ◌∙◌, subst}
 use Rattle.std.proofs.Common.{Err, IfOk, IsOk, MatchResult, Ok, OnOk, Result, ap, le_refl, le_trans, arith}
 use Rattle.std.proofs.lemmas.Bool.{false≢true}
 use Rattle.std.proofs.lemmas.List.Elements.{All-from_recursion}
 use Rattle.std.specs.List.{AllByRecursion, AllZip}
 use Rattle.lj_base.proofs.Lists.{AllByRecursion-append, AllByRecursion-back, AllByRecursion-front}
 use Rattle.lj_base.proofs.Lists.{AllByRecursion-weaker}
-use Rattle.lj_base.specs.Cells.{Triple}
-use Rattle.lj_base.specs.Frames.{InFrame, Top}
+use Rattle.lj_base.specs.Frames.{Top}
 use Rattle.lj_base.specs.declared.errors.Memory.{Memory}
 use Rattle.lj_board.specs.Seen.{BoardView, NoneRises, PassView, seen_of}
-use Rattle.lj_cover.specs.Derivations.{IsLeast}
-use Rattle.lj_cover.specs.Rules.{Condition, Rule, Upload, One, Runs, All, Leaf, Derived, Derived2, Drop, Add, Grow}
-use Rattle.lj_cover.specs.Rules.{Lower, Product, Induced, rule_cell, rule_cost}
-use Rattle.lj_relax.specs.Steps.{IsOffer, NamesBase}
+use Rattle.lj_cover.specs.Rules.{Rule, Upload, One, Runs, All, Leaf, Derived, Derived2, Drop, Add, Grow}
+use Rattle.lj_cover.specs.Rules.{Lower, Product, Induced, rule_cell}
+use Rattle.lj_relax.specs.Steps.{NamesBase}
 use Rattle.lj_script.specs.Values.{SectionValue}
 use Rattle.lj_session.specs.Driving.{SeesLeast, SeesUses}
 use Rattle.lj_session.specs.ServeReplies.{IsUseOf}
 use Rattle.lj_session.specs.Sessions.{SessionValue}
 use Rattle.lj_session.specs.declared.ends.SessionEnd.{SessionEnd}
 use Rattle.lj_shared.specs.Passes.{AtMostEach, AtMostOffers}
-use Rattle.lj_gate.specs.Ends.{AreServed, AtMostUses, IsClient, IsEnd, IsJoined, IsOfRun, IsServedEnd, IsWorker}
+use Rattle.lj_gate.specs.Ends.{AreServed, AtMostUses, IsEnd, IsJoined, IsOfRun, IsWorker}
 use Rattle.lj_gate.specs.Prepared.{IsPrepared, IsReady, IsRun}
 use Rattle.lj_gate.specs.Started.{AreGathered, GivesEnd, IsFinished, IsGathered, IsJob, IsJoinedTo, IsWorking}
 use Rattle.lj_gate.specs.declared.clients.Client.{Client}

@@ -1,5 +1,5 @@
 -- What clients and workers leave when they end.
-use Rattle.std.specs.Prelude.{◌≡◌, ℕ, ◌≤◌, IfOk, OnOk, List, [], ◌∷◌, length}
+use Rattle.std.specs.Prelude.{◌≡◌, ◌≤◌, IfOk, OnOk, List, [], ◌∷◌, length}
 use Rattle.std.specs.List.{AllByRecursion, Contains}
 use Rattle.lj_base.specs.Frames.{InFrame, Top}
 use Rattle.lj_board.specs.Seen.{BoardView, NoneRises, PassView, seen_of}

@@ -4,7 +4,6 @@ use Rattle.std.specs.List.{All, AllZip}
 use Rattle.lj_base.specs.Frames.{Top}
 use Rattle.lj_board.specs.Seen.{BoardView, NoneRises, PassView}
 use Rattle.lj_script.specs.Values.{SectionValue}
-use Rattle.lj_session.specs.Sessions.{SessionValue}
 use Rattle.lj_session.specs.declared.ends.SessionEnd.{SessionEnd}
 use Rattle.lj_gate.specs.declared.clients.Client.{Client}
 use Rattle.lj_gate.specs.declared.clients.Job.{Job}

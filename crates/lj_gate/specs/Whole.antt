@@ -1,6 +1,5 @@
 -- What `serve` comes to for a script.
-use Rattle.std.specs.Prelude.{◌≡◌, ℕ, ◌≤◌, List, [], ◌∷◌}
-use Rattle.std.specs.List.{AllByRecursion}
+use Rattle.std.specs.Prelude.{◌≡◌, ◌≤◌, List, [], ◌∷◌}
 use Rattle.lj_base.specs.Frames.{Top}
 use Rattle.lj_board.specs.Seen.{BoardView, PassView, seen_of}
 use Rattle.lj_base.specs.Cells.{Triple}

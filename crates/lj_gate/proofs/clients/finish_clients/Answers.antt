@@ -1,4 +1,4 @@
-use Rattle.std.proofs.Common.{rules, ◌≡◌, false, List, [], ◌∷◌, ◌++◌, length, subst, sym, ◌∙◌, map-id, arith}
+use Rattle.std.proofs.Common.{rules, ◌≡◌, false, List, [], ◌∷◌, length, subst, sym, ◌∙◌, map-id, arith}
 use Rattle.std.proofs.lemmas.Iterator.Consumers.{YieldsList-end, YieldsList-turn}
 use Rattle.std.proofs.lemmas.Iterator.Adapters.{YieldsList-from_vec}
 use Rattle.std.proofs.lemmas.List.{length-append}

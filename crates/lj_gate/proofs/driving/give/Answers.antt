@@ -1,6 +1,5 @@
-use Rattle.std.proofs.Common.{◌≡◌, List, [], ◌∷◌, sym, ap, ◌∙◌, subst}
+use Rattle.std.proofs.Common.{◌≡◌, List, sym, ap, ◌∙◌, subst}
 use Rattle.std.proofs.lemmas.Result.{on_ok_weaker}
-use Rattle.lj_base.specs.Frames.{InFrame, Top}
 use Rattle.lj_board.specs.Seen.{seen_of}
 use Rattle.lj_cover.specs.Derivations.{root_cell}
 use Rattle.lj_cover.specs.Rules.{Upload}

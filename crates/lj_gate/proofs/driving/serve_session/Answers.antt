@@ -1,4 +1,3 @@
-use Rattle.std.proofs.Common.{◌≡◌, rules}
 use Rattle.lj_board.specs.Seen.{seen_of}
 use Rattle.lj_gate.proofs.driving.serve_session.Goals as goal
 

@@ -1,4 +1,4 @@
-use Rattle.std.proofs.Common.{rules, ◌≡◌, List, [], ◌∷◌, ◌++◌, Option, map, ap, ap₂, sym, subst, ◌∙◌}
+use Rattle.std.proofs.Common.{rules, ◌≡◌, List, [], ◌∷◌, ◌++◌, Option, ap₂, sym, subst, ◌∙◌}
 use Rattle.std.specs.Prelude.{option_to_list}
 use Rattle.std.proofs.lemmas.List.{take-append-drop}
 use Rattle.lj_board.specs.Seen.{PassView}

@@ -1,4 +1,4 @@
-use Rattle.std.proofs.Common.{◌≡◌, arith}
+use Rattle.std.proofs.Common.{arith}
 use Rattle.std.proofs.lemmas.Result.{IfOk-weaker}
 use Rattle.lj_gate.proofs.Joined.{prepared_ready, run_joins, run_serves}
 use Rattle.lj_gate.proofs.runs.run.Goals as goal

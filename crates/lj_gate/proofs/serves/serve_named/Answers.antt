@@ -1,9 +1,8 @@
-use Rattle.std.proofs.Common.{◌≡◌, List, map, ap, subst, sym, ◌∙◌}
+use Rattle.std.proofs.Common.{◌≡◌, List, map, ap, sym, ◌∙◌}
 use Rattle.std.proofs.lemmas.Result.{IfOk-weaker}
-use Rattle.std.specs.List.{AllByRecursion}
 use Rattle.lj_base.specs.Colex.{choose}
 use Rattle.lj_base.specs.Frames.{Top}
-use Rattle.lj_board.specs.Seen.{BoardView, PassView}
+use Rattle.lj_board.specs.Seen.{PassView}
 use Rattle.lj_build.specs.Closing.{IsClosed}
 use Rattle.lj_build.specs.Runs.{uploads_of}
 use Rattle.lj_script.specs.Values.{ScriptValue, SectionValue}

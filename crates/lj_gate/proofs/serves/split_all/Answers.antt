@@ -1,4 +1,4 @@
-use Rattle.std.proofs.Common.{rules, ◌≡◌, [], ◌∷◌, ◌++◌, ◌∙◌, ap, sym, subst, arith}
+use Rattle.std.proofs.Common.{rules, ◌≡◌, [], ◌∷◌, ◌++◌, ◌∙◌, sym, subst, arith}
 use Rattle.std.proofs.lemmas.List.{length-append}
 use Rattle.lj_base.proofs.Lists.{AllByRecursion-push}
 use Rattle.lj_board.specs.Seen.{PassView}
