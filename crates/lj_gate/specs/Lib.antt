@@ -1,0 +1,4 @@
+pub mod Ends
+pub mod Started
+pub mod Prepared
+pub mod Whole
