@@ -85,7 +85,7 @@ replies_done names ends i now whole end h =
     sym (append-nil now) ∙ ap (λ text. now ++ text) (sym (nothing_left names ends i end)) ∙ h
 
 -- the replies by the names are those by the sections
-sections_replies : (sections : List SectionValue) (ends : List SessionEnd)
+pub sections_replies : (sections : List SectionValue) (ends : List SessionEnd)
     → replies_text (names_of sections) ends ≡ sections_text sections ends
 sections_replies [] [] = refl
 sections_replies [] (e ∷ ends) = refl

@@ -7,10 +7,12 @@ use Rattle.lj_verify.specs.declared.limits.TheConstants.{MAX_WORKERS}
 use Rattle.lj_cli.specs.Given.{Arguments, IsFew, given_by}
 use Rattle.lj_base.specs.Cells.{Triple}
 use Rattle.lj_cli.specs.GoodWords.{GoodWords, IsBuildCall, IsCall, IsCellCall, IsCheckCall, IsGenCall, IsWorkers}
-use Rattle.lj_cli.specs.GoodWords.{TakesNumbers}
+use Rattle.lj_cli.specs.GoodWords.{IsBigCall, IsServeCall, TakesNumbers}
+use Rattle.lj_cli.specs.declared.words.BigCall.{BigCall}
 use Rattle.lj_cli.specs.declared.words.Call.{Call}
-use Rattle.lj_cli.specs.declared.words.Call.TheVariants.{Check, Build, Gen, Excess, Greedy, Reduce}
+use Rattle.lj_cli.specs.declared.words.Call.TheVariants.{Check, Build, Serve, Gen, Big, Excess, Greedy, Reduce}
 use Rattle.lj_cli.specs.declared.words.CheckCall.{CheckCall}
+use Rattle.lj_cli.specs.declared.words.ServeCall.{ServeCall}
 
 abbrev given : Arguments → Option Arguments → Arguments
 given other None = other
@@ -19,7 +21,9 @@ given other (Some g) = g
 abbrev command_name : Call → List ℕ
 command_name (Check call) = codes "check"
 command_name (Build json) = codes "build"
+command_name (Serve call) = codes "serve"
 command_name (Gen m) = codes "gen"
+command_name (Big call) = codes "big"
 command_name (Excess cell) = codes "excess"
 command_name (Greedy cell) = codes "greedy"
 command_name (Reduce cell) = codes "reduce"
@@ -27,7 +31,9 @@ command_name (Reduce cell) = codes "reduce"
 named : (name : List ℕ) (g : Arguments) (call : Call) → IsCall name g call → name ≡ command_name call
 named name g (Check call) h = h.0
 named name g (Build json) h = h.0
+named name g (Serve call) h = h.0
 named name g (Gen m) h = h.0
+named name g (Big call) h = h.0
 named name g (Excess cell) h = h.0
 named name g (Greedy cell) h = h.0
 named name g (Reduce cell) h = h.0
@@ -68,6 +74,22 @@ one_cell g h c d same call asks =
 one_build : (g h : Arguments) (a b : Bool) → g ≡ h → IsBuildCall g a → IsBuildCall h b → a ≡ b
 one_build g h a b same call asks = same_flag h.json a b (ap (λ (x : Arguments). x.json) (sym same) ∙ call.2) asks.2
 
+one_serve : (g h : Arguments) (c d : ServeCall) → g ≡ h → IsServeCall g c → IsServeCall h d → c ≡ d
+one_serve g h c d same call asks =
+    let numbers = sym call.1 ∙ ap (λ (x : Arguments). x.workers) same ∙ asks.1 in
+    let workers : c.workers ≡ d.workers = ap (λ ns. get_or ns 0 0) numbers in
+    let json : c.json ≡ d.json =
+    same_flag h.json c.json d.json (ap (λ (x : Arguments). x.json) (sym same) ∙ call.4) asks.4 in
+    λ i. record { workers = workers i; json = json i }
+
+one_big : (g h : Arguments) (c d : BigCall) → g ≡ h → IsBigCall g c → IsBigCall h d → c ≡ d
+one_big g h c d same call asks =
+    let numbers = sym call.0 ∙ ap (λ (x : Arguments). x.numbers) same ∙ asks.0 in
+    let values = sym call.3 ∙ ap (λ (x : Arguments). x.workers) same ∙ asks.3 in
+    let m : c.m ≡ d.m = ap (λ ns. get_or ns 0 0) numbers in
+    let workers : c.workers ≡ d.workers = ap (λ ns. get_or ns 0 0) values in
+    λ i. record { m = m i; workers = workers i }
+
 one_gen : (g h : Arguments) (m n : ℕ) → g ≡ h → IsGenCall g m → IsGenCall h n → m ≡ n
 one_gen g h m n same call asks =
     let numbers = sym call.0 ∙ ap (λ (x : Arguments). x.numbers) same ∙ asks.0 in
@@ -76,7 +98,9 @@ one_gen g h m n same call asks =
 one_of : (name : List ℕ) (g h : Arguments) (c d : Call) → g ≡ h → IsCall name g c → IsCall name h d → c ≡ d
 one_of name g h (Check c) (Check d) same call asks = ap Check (one_check g h c d same call.1 asks.1)
 one_of name g h (Build a) (Build b) same call asks = ap Build (one_build g h a b same call.1 asks.1)
+one_of name g h (Serve c) (Serve d) same call asks = ap Serve (one_serve g h c d same call.1 asks.1)
 one_of name g h (Gen m) (Gen n) same call asks = ap Gen (one_gen g h m n same call.1 asks.1)
+one_of name g h (Big c) (Big d) same call asks = ap Big (one_big g h c d same call.1 asks.1)
 one_of name g h (Excess c) (Excess d) same call asks = ap Excess (one_cell g h c d same call.1 asks.1)
 one_of name g h (Greedy c) (Greedy d) same call asks = ap Greedy (one_cell g h c d same call.1 asks.1)
 one_of name g h (Reduce c) (Reduce d) same call asks = ap Reduce (one_cell g h c d same call.1 asks.1)
@@ -97,7 +121,9 @@ numbers_of : (name : List ℕ) (g : Arguments) (call : Call) → IsCall name g c
 numbers_of name g (Check call) h =
     let workers = some_workers g.workers call.workers h.1.3 in (h.1.2, workers.0, workers.1)
 numbers_of name g (Build json) h = tt
+numbers_of name g (Serve call) h = (h.1.2, h.1.3)
 numbers_of name g (Gen m) h = (h.1.1, h.1.2)
+numbers_of name g (Big call) h = (h.1.1, h.1.2, h.1.4, h.1.5)
 numbers_of name g (Excess cell) h = h.1.2
 numbers_of name g (Greedy cell) h = h.1.2
 numbers_of name g (Reduce cell) h = h.1.2
@@ -134,6 +160,16 @@ few_of name g (Build json) h = (
   omega (arith, ap (λ (ns : List ℕ). length ns) h.1.0),
   omega (arith, ap (λ (ns : List ℕ). length ns) h.1.1),
   small_flag g.json json h.1.2,
+)
+few_of name g (Serve call) h = (
+  omega (arith, ap (λ (ns : List ℕ). length ns) h.1.0),
+  omega (arith, ap (λ (ns : List ℕ). length ns) h.1.1),
+  small_flag g.json call.json h.1.4,
+)
+few_of name g (Big call) h = (
+  omega (arith, ap (λ (ns : List ℕ). length ns) h.1.0),
+  omega (arith, ap (λ (ns : List ℕ). length ns) h.1.3),
+  omega (arith, h.1.6),
 )
 few_of name g (Gen m) h = (
   omega (arith, ap (λ (ns : List ℕ). length ns) h.1.0),

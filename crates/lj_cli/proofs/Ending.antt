@@ -16,7 +16,7 @@ printed o text status ended (inl h) calm = (h.0, h.1)
 printed o text status ended (inr h) calm = absurd (calm h.1)
 
 -- a source that is at its end gave all that it had
-whole_is : (a b : Option (List ℕ)) (bs : List ℕ) → Consumes a b bs → IsAtEnd b → IfSome a (λ all. bs ≡ all)
+pub whole_is : (a b : Option (List ℕ)) (bs : List ℕ) → Consumes a b bs → IsAtEnd b → IfSome a (λ all. bs ≡ all)
 whole_is None b bs h end = tt
 whole_is (Some xs) None bs h end = absurd h
 whole_is (Some xs) (Some ys) bs h end = sym (h ∙ ap (λ l. bs ++ l) end ∙ append-nil bs)

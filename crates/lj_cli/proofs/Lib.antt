@@ -4,3 +4,7 @@ pub mod Building
 pub mod Ending
 pub mod OneOutput
 pub mod Counting
+pub mod Replied
+pub mod Headlines
+pub mod Serving
+pub mod Summing

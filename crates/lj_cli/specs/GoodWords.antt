@@ -4,9 +4,11 @@ use Rattle.std.specs.Global.{Global}
 use Rattle.lj_base.specs.Cells.{IsCell, Triple}
 use Rattle.lj_verify.specs.declared.limits.TheConstants.{MAX_WORKERS}
 use Rattle.lj_cli.specs.Given.{Arguments, given_by}
+use Rattle.lj_cli.specs.declared.words.BigCall.{BigCall}
 use Rattle.lj_cli.specs.declared.words.Call.{Call}
-use Rattle.lj_cli.specs.declared.words.Call.TheVariants.{Check, Build, Gen, Excess, Greedy, Reduce}
+use Rattle.lj_cli.specs.declared.words.Call.TheVariants.{Check, Build, Serve, Gen, Big, Excess, Greedy, Reduce}
 use Rattle.lj_cli.specs.declared.words.CheckCall.{CheckCall}
+use Rattle.lj_cli.specs.declared.words.ServeCall.{ServeCall}
 
 abbrev pub texts : List (String Global) → List (List ℕ)
 texts words = map (λ word. string_bytes word) words
@@ -32,15 +34,27 @@ IsCellCall g cell = (g.numbers ≡ cell.v ∷ cell.k ∷ cell.t ∷ []) × IsCel
 abbrev pub IsBuildCall : Arguments → Bool → Type 0
 IsBuildCall g json = (g.numbers ≡ []) × (g.workers ≡ []) × (g.json ≡ (if json then 1 else 0))
 
+-- serve --workers N [--json]
+abbrev pub IsServeCall : Arguments → ServeCall → Type 0
+IsServeCall g call = (g.numbers ≡ []) × (g.workers ≡ call.workers ∷ []) × (1 ≤ call.workers)
+    × (call.workers ≤ MAX_WORKERS) × (g.json ≡ (if call.json then 1 else 0))
+
 -- gen M
 abbrev pub IsGenCall : Arguments → ℕ → Type 0
 IsGenCall g m = (g.numbers ≡ m ∷ []) × (2 ≤ m) × (m ≤ 6) × (g.workers ≡ []) × (g.json ≡ 0)
+
+-- big M --workers N
+abbrev pub IsBigCall : Arguments → BigCall → Type 0
+IsBigCall g call = (g.numbers ≡ call.m ∷ []) × (2 ≤ call.m) × (call.m ≤ 6) × (g.workers ≡ call.workers ∷ [])
+    × (1 ≤ call.workers) × (call.workers ≤ MAX_WORKERS) × (g.json ≡ 0)
 
 -- the command's name and what was given after it call for this
 abbrev pub IsCall : List ℕ → Arguments → Call → Type 0
 IsCall name g (Check call) = (name ≡ codes "check") × IsCheckCall g call
 IsCall name g (Build json) = (name ≡ codes "build") × IsBuildCall g json
+IsCall name g (Serve call) = (name ≡ codes "serve") × IsServeCall g call
 IsCall name g (Gen m) = (name ≡ codes "gen") × IsGenCall g m
+IsCall name g (Big call) = (name ≡ codes "big") × IsBigCall g call
 IsCall name g (Excess cell) = (name ≡ codes "excess") × IsCellCall g cell
 IsCall name g (Greedy cell) = (name ≡ codes "greedy") × IsCellCall g cell
 IsCall name g (Reduce cell) = (name ≡ codes "reduce") × IsCellCall g cell
@@ -54,7 +68,9 @@ GoodWords (name ∷ words) call = (g : Arguments) × (given_by words ≡ Some g)
 abbrev pub TakesNumbers : Call → Type 0
 TakesNumbers (Check call) = (1 ≤ call.cell.k) × (1 ≤ call.workers) × (call.workers ≤ MAX_WORKERS)
 TakesNumbers (Build json) = Unit {0}
+TakesNumbers (Serve call) = (1 ≤ call.workers) × (call.workers ≤ MAX_WORKERS)
 TakesNumbers (Gen m) = (2 ≤ m) × (m ≤ 6)
+TakesNumbers (Big call) = (2 ≤ call.m) × (call.m ≤ 6) × (1 ≤ call.workers) × (call.workers ≤ MAX_WORKERS)
 TakesNumbers (Excess cell) = 1 ≤ cell.k
 TakesNumbers (Greedy cell) = 1 ≤ cell.k
 TakesNumbers (Reduce cell) = 1 ≤ cell.k

@@ -5,4 +5,7 @@ pub mod CheckOutput
 pub mod BuildOutput
 pub mod CountOutput
 pub mod Ends
+pub mod ServeOutput
+pub mod Headline
+pub mod BigOutput
 pub mod Running

@@ -103,7 +103,7 @@ fn block_sets(cell: Cell) -> u64
 }
 
 // Appends a word, a number and the end of the line.
-fn put_line(out: &mut Vec<u8>, word: &[u8], n: u64) -> Result<(), Memory>
+pub(crate) fn put_line(out: &mut Vec<u8>, word: &[u8], n: u64) -> Result<(), Memory>
     ensures { OnOk result (out.new.items ≡ out.old.items ++ number_line word.now n) }
 {
     put_named(out, word, &[n])?;

@@ -1,8 +1,9 @@
 //! The program `ljcr`: checks whether blocks cover every set of points of a cell, replies to the clients of a script
-//! with the least bounds that follow from their uploads, writes generated scripts, counts the sets of coverings, makes
-//! coverings, and removes spare blocks.
+//! with the least bounds that follow from their uploads, one after the other or all at once, writes generated scripts,
+//! counts the sets of coverings, makes coverings, and removes spare blocks.
 #![tactic(auto)]
 
+mod big;
 mod build;
 mod check;
 mod coverings;
@@ -17,11 +18,17 @@ mod replies;
 #[cfg(test)]
 mod rows;
 mod script_faults;
+mod serve;
+mod serve_laws;
+#[cfg(test)]
+mod serve_rows;
+mod served;
 mod status;
 mod top;
 mod verdicts;
 mod words;
 
+pub use big::big_run;
 pub use build::build_run;
 pub use check::check_run;
 pub use excess::excess_run;
@@ -33,7 +40,10 @@ pub use laws::{
     words_law,
 };
 use lj_base::{StdSink, StdSource};
+use lj_gate::FreeGate;
 pub use reduce::reduce_run;
+pub use serve::serve_run;
+pub use serve_laws::{equal_reports_law, headline_law, serve_complete_law, served_whole_law};
 pub use status::{
     BAD_WORDS, DONE, FAULTY, NO_MEMORY, NO_WORDS, READ_FAILED, TOO_LARGE, UNCOVERED, WRITE_FAILED,
 };
@@ -41,7 +51,7 @@ use std::process::ExitCode;
 use std::{env, io};
 pub use top::ljcr;
 pub use verdicts::Verdict;
-pub use words::{Call, CheckCall, read_words};
+pub use words::{BigCall, Call, CheckCall, ServeCall, read_words};
 
 fn main(rt: HostRuntime) -> ExitCode {
     let Ok(args) = env::args(&rt) else {
@@ -53,5 +63,12 @@ fn main(rt: HostRuntime) -> ExitCode {
     };
     let mut input = StdSource::new(rt.reader());
     let mut out = StdSink::new(io::writer(&rt));
-    ExitCode::from(ljcr(&rt, rt.alloc(), &words, &mut input, &mut out))
+    ExitCode::from(ljcr(
+        &rt,
+        rt.alloc(),
+        &words,
+        &mut input,
+        &mut out,
+        &FreeGate,
+    ))
 }

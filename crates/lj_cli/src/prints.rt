@@ -47,8 +47,8 @@ pub(crate) fn print_usage<K: Sink>(out: &mut K) -> u8
 {
     print(
         out,
-        b"usage: ljcr check V K T [--workers N] | build [--json] | gen M | excess V K T \
-        | greedy V K T | reduce V K T\n",
+        b"usage: ljcr check V K T [--workers N] | build [--json] | serve --workers N [--json] | gen M \
+        | big M --workers N | excess V K T | greedy V K T | reduce V K T\n",
         BAD_WORDS,
     )
 }

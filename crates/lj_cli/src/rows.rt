@@ -2,6 +2,8 @@ use crate::{check_run, ljcr, read_words};
 use lj_base::{Cell, MemSink, MemSource};
 use std::alloc::Global;
 use std::test::Fail;
+use lj_gate::FreeGate;
+use std::sync::Wait;
 use std::thread::Threads;
 
 // The parts between spaces as words, with none of them empty.
@@ -16,7 +18,7 @@ fn words_of(alloc: Global, line: &str) -> Result<Vec<String>, Fail> {
 }
 
 // The status of a run, and what was written.
-fn run<R: Threads + Sync>(
+pub(crate) fn run<R: Threads + Wait + Sync>(
     rt: &R,
     alloc: Global,
     line: &str,
@@ -26,8 +28,8 @@ fn run<R: Threads + Sync>(
     let mut bytes = Vec::new(alloc);
     bytes.extend_from_slice(input)?;
     let mut source = MemSource::new(bytes, 4096, Vec::new(alloc));
-    let mut sink = MemSink::new(alloc, 4096, 7, Vec::new(alloc))?;
-    let status = ljcr(rt, alloc, &words, &mut source, &mut sink);
+    let mut sink = MemSink::new(alloc, 65_536, 7, Vec::new(alloc))?;
+    let status = ljcr(rt, alloc, &words, &mut source, &mut sink, &FreeGate);
     Ok((status, sink))
 }
 
@@ -163,8 +165,8 @@ fn words_are_good_or_end_with_the_usage_line(rt: HostRuntime) -> Result<(), Fail
         let (status, sink) = run(&rt, rt.alloc(), line, FOUR)?;
         assert_eq!(rt;
             sink.bytes(),
-            b"usage: ljcr check V K T [--workers N] | build [--json] | gen M | excess V K T \
-            | greedy V K T | reduce V K T\n"
+            b"usage: ljcr check V K T [--workers N] | build [--json] | serve --workers N [--json] | gen M \
+            | big M --workers N | excess V K T | greedy V K T | reduce V K T\n"
                 .as_slice(),
             "of {line}"
         );
@@ -234,7 +236,7 @@ fn an_input_one_byte_too_long_is_refused(rt: HostRuntime) -> Result<(), Fail> {
     let mut source = MemSource::new(bytes, 1 << 20, Vec::new(alloc));
     let mut sink = MemSink::new(alloc, 64, 64, Vec::new(alloc))?;
     let words = words_of(alloc, "check 4 2 1")?;
-    assert_eq!(rt; ljcr(&rt, alloc, &words, &mut source, &mut sink), 6);
+    assert_eq!(rt; ljcr(&rt, alloc, &words, &mut source, &mut sink, &FreeGate), 6);
     assert_eq!(rt; sink.bytes(), b"fault input too large\n".as_slice());
     Ok(())
 }

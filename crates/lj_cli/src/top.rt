@@ -1,12 +1,16 @@
 ghost use Rattle.lj_gen.specs.Generated.{gen_text};
+ghost use Rattle.lj_cli.specs.BigOutput.{IsBigCommandOutput};
 ghost use Rattle.lj_cli.specs.BuildOutput.{IsBuildCommandOutput};
 ghost use Rattle.lj_cli.specs.CheckOutput.{IsCheckOutput};
 ghost use Rattle.lj_cli.specs.CountOutput.{IsExcessOutput, IsGreedyOutput, IsReduceOutput};
 ghost use Rattle.lj_cli.specs.Ends.{Ends, EndsUnread, EndsWithOutput, EndsWithText, EndsWithUsage, input_of};
 ghost use Rattle.lj_cli.specs.Ends.{output_of};
 ghost use Rattle.lj_cli.specs.GoodWords.{GoodWords, TakesNumbers, texts};
+ghost use Rattle.lj_cli.specs.Headline.{HasHeadline};
 ghost use Rattle.lj_cli.specs.Running.{EndsAs};
+ghost use Rattle.lj_cli.specs.ServeOutput.{IsServeCommandOutput};
 
+use crate::big::big_run;
 use crate::build::build_run;
 use crate::check::check_run;
 use crate::excess::excess_run;
@@ -14,18 +18,22 @@ use crate::generate::gen_run;
 use crate::greedy::greedy_run;
 use crate::prints::print_usage;
 use crate::reduce::reduce_run;
+use crate::serve::serve_run;
 use crate::words::{Call, read_words};
 use lj_base::{Sink, Source};
+use lj_gate::Gate;
 use std::alloc::Global;
+use std::sync::Wait;
 use std::thread::Threads;
 
 /// Runs the command that the words after the program's name call for. Returns the status.
-pub fn ljcr<R: Threads + Sync, S: Source, K: Sink>(
+pub fn ljcr<R: Threads + Wait + Sync, S: Source, K: Sink, G: Gate + Sync>(
     rt: &R,
     alloc: Global,
     words: &[String],
     input: &mut S,
     out: &mut K,
+    gate: &G,
 ) -> u8
     // Words that call for a check end as a check of that cell ends.
     ensures check { (call : _) → GoodWords (texts words.now) (Call.Check call) →
@@ -35,6 +43,21 @@ pub fn ljcr<R: Threads + Sync, S: Source, K: Sink>(
     // Words that call for a build end as a build ends, with its report as JSON where that is asked for.
     ensures build { (json : _) → GoodWords (texts words.now) (Call.Build json) →
         Ends (IsBuildCommandOutput json) (input_of S.left S.faults input.old input.new)
+        (output_of K.written K.faults out.old out.new) result }
+
+    // Words that call for serving a script end as that ends, with its report as JSON where that is asked for.
+    ensures serve { (call : _) → GoodWords (texts words.now) (Call.Serve call) →
+        Ends (IsServeCommandOutput call.json) (input_of S.left S.faults input.old input.new)
+        (output_of K.written K.faults out.old out.new) result }
+
+    // The headline: with status 0 what was printed keeps its promises.
+    ensures headline { (call : _) → GoodWords (texts words.now) (Call.Serve call) →
+        HasHeadline call.json (input_of S.left S.faults input.old input.new)
+        (output_of K.written K.faults out.old out.new) result }
+
+    // Words that call for serving a generated script end with a summary of that, and nothing is read.
+    ensures big { (call : _) → GoodWords (texts words.now) (Call.Big call) →
+        EndsUnread (EndsWithOutput (IsBigCommandOutput call.m)) (input_of S.left S.faults input.old input.new)
         (output_of K.written K.faults out.old out.new) result }
 
     // Words that call for a generated script end with it, and nothing is read.
@@ -63,18 +86,19 @@ pub fn ljcr<R: Threads + Sync, S: Source, K: Sink>(
         result }
 {
     match read_words(words) {
-        Some(call) => run_call(rt, alloc, call, input, out),
+        Some(call) => run_call(rt, alloc, call, input, out, gate),
         None => print_usage(out),
     }
 }
 
 // Runs a command.
-fn run_call<R: Threads + Sync, S: Source, K: Sink>(
+fn run_call<R: Threads + Wait + Sync, S: Source, K: Sink, G: Gate + Sync>(
     rt: &R,
     alloc: Global,
     call: Call,
     input: &mut S,
     out: &mut K,
+    gate: &G,
 ) -> u8
     requires { TakesNumbers call }
     ensures { EndsAs call (input_of S.left S.faults input.old input.new)
@@ -83,7 +107,9 @@ fn run_call<R: Threads + Sync, S: Source, K: Sink>(
     match call {
         Call::Check(check) => check_run(rt, alloc, check.cell, check.workers, input, out),
         Call::Build { json } => build_run(rt, alloc, json, input, out),
+        Call::Serve(serve) => serve_run(rt, alloc, serve.workers, serve.json, input, out, gate),
         Call::Gen { m } => gen_run(alloc, m, out),
+        Call::Big(big) => big_run(rt, alloc, big.m, big.workers, out, gate),
         Call::Excess { cell } => excess_run(rt, alloc, cell, input, out),
         Call::Greedy { cell } => greedy_run(alloc, cell, out),
         Call::Reduce { cell } => reduce_run(rt, alloc, cell, input, out),

@@ -1,5 +1,6 @@
 ghost use Rattle.std.specs.Prelude.{IfNone, IfSome};
-ghost use Rattle.lj_cli.specs.GoodWords.{GoodWords, IsBuildCall, IsCall, IsCellCall, IsCheckCall, IsGenCall, texts};
+ghost use Rattle.lj_cli.specs.GoodWords.{GoodWords, IsBigCall, IsBuildCall, IsCall, IsCellCall, IsCheckCall, IsGenCall};
+ghost use Rattle.lj_cli.specs.GoodWords.{IsServeCall, texts};
 
 use crate::given::{Given, read_given};
 use lj_base::Cell;
@@ -12,14 +13,30 @@ pub struct CheckCall {
     pub workers: u64,
 }
 
+/// A script is served with a number of workers; its report is JSON or text.
+#[derive(Clone, Copy, Debug, PartialEq, Eq)]
+pub struct ServeCall {
+    pub workers: u64,
+    pub json: bool,
+}
+
+/// The generated script of `2 ^ m` points is served with a number of workers.
+#[derive(Clone, Copy, Debug, PartialEq, Eq)]
+pub struct BigCall {
+    pub m: u64,
+    pub workers: u64,
+}
+
 /// A command with its numbers and flags.
 #[derive(Clone, Copy, Debug, PartialEq, Eq)]
 pub enum Call {
     Check(CheckCall),
     /// Builds the script of the input; its report is JSON or text.
     Build { json: bool },
+    Serve(ServeCall),
     /// Prints the generated script of `2 ^ m` points.
     Gen { m: u64 },
+    Big(BigCall),
     /// Prints by how much the blocks of the input exceed a covering of each set once.
     Excess { cell: Cell },
     /// Prints the greedy covering of the cell.
@@ -49,9 +66,15 @@ fn call_of(name: &str, given: &Given) -> Option<Call>
     } else if name == "build" {
         let json = build_call(given)?;
         Some(Call::Build { json })
+    } else if name == "serve" {
+        let call = serve_call(given)?;
+        Some(Call::Serve(call))
     } else if name == "gen" {
         let m = gen_call(given)?;
         Some(Call::Gen { m })
+    } else if name == "big" {
+        let call = big_call(given)?;
+        Some(Call::Big(call))
     } else if name == "excess" {
         let cell = cell_call(given)?;
         Some(Call::Excess { cell })
@@ -114,6 +137,25 @@ fn build_call(given: &Given) -> Option<bool>
     }
 }
 
+// serve --workers N [--json]
+fn serve_call(given: &Given) -> Option<ServeCall>
+    ensures good { IfSome result (IsServeCall given.now) }
+    ensures bad { IfNone result ((call : _) → IsServeCall given.now call → ⊥) }
+{
+    let [] = given.numbers() else {
+        return None;
+    };
+    let workers = given.workers()?;
+    if 1 <= workers && workers <= MAX_WORKERS {
+        Some(ServeCall {
+            workers,
+            json: given.json(),
+        })
+    } else {
+        None
+    }
+}
+
 // gen M
 fn gen_call(given: &Given) -> Option<u64>
     ensures good { IfSome result (IsGenCall given.now) }
@@ -124,6 +166,23 @@ fn gen_call(given: &Given) -> Option<u64>
     };
     if 2 <= *m && *m <= 6 && given.workers().is_none() && !given.json() {
         Some(*m)
+    } else {
+        None
+    }
+}
+
+// big M --workers N
+fn big_call(given: &Given) -> Option<BigCall>
+    ensures good { IfSome result (IsBigCall given.now) }
+    ensures bad { IfNone result ((call : _) → IsBigCall given.now call → ⊥) }
+{
+    let [m] = given.numbers() else {
+        return None;
+    };
+    let m = *m;
+    let workers = given.workers()?;
+    if 2 <= m && m <= 6 && 1 <= workers && workers <= MAX_WORKERS && !given.json() {
+        Some(BigCall { m, workers })
     } else {
         None
     }

@@ -1,12 +1,12 @@
 use Rattle.std.proofs.Common.{◌≡◌, rules}
 use Rattle.lj_cli.specs.GoodWords.{texts}
-use Rattle.lj_cli.specs.declared.words.Call.TheVariants.{Check, Build, Gen, Excess, Greedy, Reduce}
+use Rattle.lj_cli.specs.declared.words.Call.TheVariants.{Check, Build, Serve, Gen, Big, Excess, Greedy, Reduce}
 use Rattle.lj_cli.proofs.Calls.{one_call, takes_numbers}
 use Rattle.lj_cli.proofs.top.ljcr.Goals as goal
 
 pub run_call-requires : goal.run_call-requires
 run_call-requires g c =
-    (search rules, takes_numbers (texts c.args.words.now) c.in-Some.call c.in-Some.ensures.good)
+    (search rules, (search rules, takes_numbers (texts c.args.words.now) c.in-Some.call c.in-Some.ensures.good))
 
 pub returns-in-Some-clause-check : goal.returns-in-Some-clause-check
 returns-in-Some-clause-check g c call good =
@@ -18,6 +18,24 @@ pub returns-in-Some-clause-build : goal.returns-in-Some-clause-build
 returns-in-Some-clause-build g c json good =
     let same : c.in-Some.call ≡ Build json = one_call
     (texts c.args.words.now) c.in-Some.call (Build json) c.in-Some.ensures.good good in
+    rw same at c.run_call.ensures
+
+pub returns-in-Some-clause-serve : goal.returns-in-Some-clause-serve
+returns-in-Some-clause-serve g c call good =
+    let same : c.in-Some.call ≡ Serve call = one_call
+    (texts c.args.words.now) c.in-Some.call (Serve call) c.in-Some.ensures.good good in
+    let served = rw same at c.run_call.ensures in served.ends
+
+pub returns-in-Some-clause-headline : goal.returns-in-Some-clause-headline
+returns-in-Some-clause-headline g c call good =
+    let same : c.in-Some.call ≡ Serve call = one_call
+    (texts c.args.words.now) c.in-Some.call (Serve call) c.in-Some.ensures.good good in
+    let served = rw same at c.run_call.ensures in served.headline
+
+pub returns-in-Some-clause-big : goal.returns-in-Some-clause-big
+returns-in-Some-clause-big g c call good =
+    let same : c.in-Some.call ≡ Big call = one_call
+    (texts c.args.words.now) c.in-Some.call (Big call) c.in-Some.ensures.good good in
     rw same at c.run_call.ensures
 
 pub returns-in-Some-clause-generated : goal.returns-in-Some-clause-generated

@@ -20,6 +20,23 @@ returns-in-Build g c = rw c.in-Build.is c.build_run.ensures
 pub returns-in-Gen : goal.returns-in-Gen
 returns-in-Gen g c = rw c.in-Gen.is (record { ends = c.gen_run.ensures; nothing = refl; no_fault = refl })
 
+pub serve_run-requires : goal.serve_run-requires
+serve_run-requires g c =
+    let takes = rw c.in-Serve.is at c.requires in
+    (search rules, (search rules, (takes.0, takes.1)))
+
+pub big_run-requires : goal.big_run-requires
+big_run-requires g c =
+    let takes = rw c.in-Big.is at c.requires in
+    (search rules, (search rules, (takes.0, (takes.1, (takes.2, takes.3)))))
+
+pub returns-in-Serve : goal.returns-in-Serve
+returns-in-Serve g c =
+    rw c.in-Serve.is (record { ends = c.serve_run.ensures.ends; headline = c.serve_run.ensures.headline })
+
+pub returns-in-Big : goal.returns-in-Big
+returns-in-Big g c = rw c.in-Big.is (record { ends = c.big_run.ensures; nothing = refl; no_fault = refl })
+
 pub excess_run-requires : goal.excess_run-requires
 excess_run-requires g c = (search rules, rw c.in-Excess.is at c.requires)
 
