@@ -1,5 +1,5 @@
-ghost use Rattle.std.specs.Prelude.{◌≡◌, ◌+◌, ◌<◌, ◌≤◌, ◌∷◌, ◌++◌, [], false, IfOk, List, MatchResult, length, vec_capacity};
-ghost use Rattle.std.specs.Prelude.{vec_len};
+ghost use Rattle.std.specs.Prelude.{◌≡◌, ◌+◌, ◌<◌, ◌≤◌, ◌∷◌, ◌++◌, [], false, List, length};
+ghost use Rattle.std.specs.Prelude.{IfOk, MatchResult, vec_capacity, vec_len};
 ghost use Rattle.std.specs.List.{All};
 ghost use Rattle.lj_board.specs.Seen.{BoardView, NoneRises};
 ghost use Rattle.lj_gate.specs.Ends.{IsClient};

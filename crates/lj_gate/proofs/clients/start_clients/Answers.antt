@@ -43,7 +43,8 @@ returns g c =
     c.next.ensures.steps in
     let done : c.loop-job.yielded ≡ c.args.jobs.items = sym (map-id _) ∙ all.0 in
     record {
-      jobs = subst (λ (js : List Job). AreStarted g.S.Serving.frame g.S.Serving.sections js c.loop-job.started.items) done
+      jobs = subst
+          (λ (js : List Job). AreStarted g.S.Serving.frame g.S.Serving.sections js c.loop-job.started.items) done
           c.loop-job.invariant.jobs;
       boards = c.loop-job.invariant.boards;
     }
