@@ -4,7 +4,11 @@
 #![tactic(auto)]
 
 mod build;
+#[cfg(test)]
+mod build_rows;
 mod check;
+#[cfg(test)]
+mod count_rows;
 mod coverings;
 mod excess;
 mod generate;
@@ -18,8 +22,12 @@ mod replies;
 mod rows;
 mod script_faults;
 mod status;
+#[cfg(test)]
+mod stream_rows;
 mod top;
 mod verdicts;
+#[cfg(test)]
+mod word_rows;
 mod words;
 
 pub use build::build_run;
