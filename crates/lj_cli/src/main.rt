@@ -5,7 +5,11 @@
 
 mod big;
 mod build;
+#[cfg(test)]
+mod build_rows;
 mod check;
+#[cfg(test)]
+mod count_rows;
 mod coverings;
 mod excess;
 mod generate;
@@ -24,8 +28,12 @@ mod serve_laws;
 mod serve_rows;
 mod served;
 mod status;
+#[cfg(test)]
+mod stream_rows;
 mod top;
 mod verdicts;
+#[cfg(test)]
+mod word_rows;
 mod words;
 
 pub use big::big_run;

@@ -1,13 +1,13 @@
-use crate::{check_run, ljcr, read_words};
-use lj_base::{Cell, MemSink, MemSource};
-use std::alloc::Global;
-use std::test::Fail;
+use crate::ljcr;
+use lj_base::{MemSink, MemSource};
 use lj_gate::FreeGate;
+use std::alloc::Global;
 use std::sync::Wait;
+use std::test::Fail;
 use std::thread::Threads;
 
 // The parts between spaces as words, with none of them empty.
-fn words_of(alloc: Global, line: &str) -> Result<Vec<String>, Fail> {
+pub(crate) fn words_of(alloc: Global, line: &str) -> Result<Vec<String>, Fail> {
     let mut words = Vec::new(alloc);
     for word in line.split(' ') {
         if !word.is_empty() {
@@ -24,16 +24,25 @@ pub(crate) fn run<R: Threads + Wait + Sync>(
     line: &str,
     input: &[u8],
 ) -> Result<(u8, MemSink), Fail> {
+    let sink = MemSink::new(alloc, 65_536, 7, Vec::new(alloc))?;
+    run_into(rt, alloc, line, input, sink)
+}
+
+// The same, with a sink that the caller makes.
+pub(crate) fn run_into<R: Threads + Wait + Sync>(
+    rt: &R,
+    alloc: Global,
+    line: &str,
+    input: &[u8],
+    mut sink: MemSink,
+) -> Result<(u8, MemSink), Fail> {
     let words = words_of(alloc, line)?;
-    let mut bytes = Vec::new(alloc);
-    bytes.extend_from_slice(input)?;
-    let mut source = MemSource::new(bytes, 4096, Vec::new(alloc));
-    let mut sink = MemSink::new(alloc, 65_536, 7, Vec::new(alloc))?;
+    let mut source = MemSource::new(input.to_vec(alloc)?, 4096, Vec::new(alloc));
     let status = ljcr(rt, alloc, &words, &mut source, &mut sink, &FreeGate);
     Ok((status, sink))
 }
 
-const FOUR: &[u8] = b"1 2 3\n1 4 5\n2 4 5\n3 4 5\n";
+pub(crate) const FOUR: &[u8] = b"1 2 3\n1 4 5\n2 4 5\n3 4 5\n";
 
 #[test]
 fn inputs_have_their_line_and_status(rt: HostRuntime) -> Result<(), Fail> {
@@ -124,84 +133,8 @@ fn inputs_have_their_line_and_status(rt: HostRuntime) -> Result<(), Fail> {
     Ok(())
 }
 
-#[test]
-fn words_are_good_or_end_with_the_usage_line(rt: HostRuntime) -> Result<(), Fail> {
-    let good = [
-        "check 5 3 2 --workers 3",
-        "check --workers 64 5 3 2",
-        "check 5 --workers=2 3 2",
-        "check --workers 1 -- 5 3 2",
-        "check 05 003 2",
-    ];
-    for line in good {
-        let (status, sink) = run(&rt, rt.alloc(), line, FOUR)?;
-        assert_eq!(rt; sink.bytes(), b"covers 4\n".as_slice(), "of {line}");
-        assert_eq!(rt; status, 0, "of {line}");
-    }
-    let bad = [
-        "",
-        "check",
-        "chec 5 3 2",
-        "5 3 2",
-        "check 5 3",
-        "check 5 3 2 1",
-        "check 5 3 x",
-        "check 5 3 4",
-        "check 3 5 2",
-        "check 5 0 0",
-        "check 100 3 2",
-        "check 5 3 2 --workers",
-        "check 5 3 2 --workers 0",
-        "check 5 3 2 --workers 65",
-        "check 5 3 2 --workers=",
-        "check 5 3 2 --workers 1 --workers 1",
-        "check 5 3 2 --json",
-        "check 5 3 2 -w",
-        "check -- 5 3 2 --workers 1",
-        "check --workers -- 5 3 2",
-        "check -- -- 5 3 2",
-    ];
-    for line in bad {
-        let (status, sink) = run(&rt, rt.alloc(), line, FOUR)?;
-        assert_eq!(rt;
-            sink.bytes(),
-            b"usage: ljcr check V K T [--workers N] | build [--json] | serve --workers N [--json] | gen M \
-            | big M --workers N | excess V K T | greedy V K T | reduce V K T\n"
-                .as_slice(),
-            "of {line}"
-        );
-        assert_eq!(rt; status, 2, "of {line}");
-        assert!(rt; read_words(&words_of(rt.alloc(), line)?).is_none());
-    }
-    Ok(())
-}
-
-#[test]
-fn faults_of_the_streams_have_their_status(rt: HostRuntime) -> Result<(), Fail> {
-    // The read that fails, the write that fails, the status and what was written, in pieces of 8 and of 2 bytes.
-    let rows: [(u64, u64, u8, &[u8]); 5] = [
-        (0, 0, 0, b"covers 4\n"),
-        (1, 0, 4, b""),
-        (2, 0, 4, b""),
-        (0, 3, 5, b"cove"),
-        (0, 1, 5, b""),
-    ];
-    let cell = Cell::new(5, 3, 2)?;
-    for (read, write, status, text) in rows {
-        let alloc = rt.alloc();
-        let mut bytes = Vec::new(alloc);
-        bytes.extend_from_slice(FOUR)?;
-        let mut source = MemSource::new(bytes, 8, vec![in alloc; read]?);
-        let mut sink = MemSink::new(alloc, 64, 2, vec![in alloc; write]?)?;
-        let ended = check_run(&rt, alloc, cell, 1, &mut source, &mut sink);
-        assert_eq!(rt; ended, status, "read {read} and write {write} fail");
-        assert_eq!(rt; sink.bytes(), text, "read {read} and write {write} fail");
-    }
-    Ok(())
-}
-
 // The line, `count` times.
-fn repeated(alloc: Global, line: &[u8], count: u64) -> Result<Vec<u8>, Fail> {
+pub(crate) fn repeated(alloc: Global, line: &[u8], count: u64) -> Result<Vec<u8>, Fail> {
     let mut bytes = Vec::new(alloc);
     for _ in 0..count {
         bytes.extend_from_slice(line)?;
@@ -236,7 +169,8 @@ fn an_input_one_byte_too_long_is_refused(rt: HostRuntime) -> Result<(), Fail> {
     let mut source = MemSource::new(bytes, 1 << 20, Vec::new(alloc));
     let mut sink = MemSink::new(alloc, 64, 64, Vec::new(alloc))?;
     let words = words_of(alloc, "check 4 2 1")?;
-    assert_eq!(rt; ljcr(&rt, alloc, &words, &mut source, &mut sink, &FreeGate), 6);
+    let status = ljcr(&rt, alloc, &words, &mut source, &mut sink, &FreeGate);
+    assert_eq!(rt; status, 6);
     assert_eq!(rt; sink.bytes(), b"fault input too large\n".as_slice());
     Ok(())
 }
