@@ -1,9 +1,9 @@
 #!/bin/sh
 # Measures `ljcr serve` with 1, 2 and 4 workers beside `ljcr build` on the same script, and `ljcr big` beside `build` on
 # its script: frames alone with a client that settles; generated scripts; sixteen clients of 40 uploads each, whose
-# checks take the most time; and a million `bound` commands of sixteen clients, in 16 runs. It takes ten runs of each, in
-# turn, and prints the best and the median wall time in seconds, and the ratios of the best to that of `build`. It needs
-# GNU time.
+# checks take the most time; and a million `bound` commands of sixteen clients, in 16 runs. It takes ten runs of each,
+# in turn, and prints the best and the median wall time in seconds, and the ratios of the best to that of `build`. It
+# needs GNU time.
 # usage: serve.sh LJCR
 set -eu
 ljcr=$1

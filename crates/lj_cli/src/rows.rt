@@ -1,9 +1,9 @@
 use crate::{check_run, ljcr, read_words};
 use lj_base::{Cell, MemSink, MemSource};
-use std::alloc::Global;
-use std::test::Fail;
 use lj_gate::FreeGate;
+use std::alloc::Global;
 use std::sync::Wait;
+use std::test::Fail;
 use std::thread::Threads;
 
 // The parts between spaces as words, with none of them empty.
@@ -236,7 +236,10 @@ fn an_input_one_byte_too_long_is_refused(rt: HostRuntime) -> Result<(), Fail> {
     let mut source = MemSource::new(bytes, 1 << 20, Vec::new(alloc));
     let mut sink = MemSink::new(alloc, 64, 64, Vec::new(alloc))?;
     let words = words_of(alloc, "check 4 2 1")?;
-    assert_eq!(rt; ljcr(&rt, alloc, &words, &mut source, &mut sink, &FreeGate), 6);
+    assert_eq!(rt;
+        ljcr(&rt, alloc, &words, &mut source, &mut sink, &FreeGate),
+        6
+    );
     assert_eq!(rt; sink.bytes(), b"fault input too large\n".as_slice());
     Ok(())
 }
