@@ -1,5 +1,5 @@
 -- What each number of a section's replies is worth, and which uploads are accepted.
-use Rattle.std.proofs.Common.{◌≡◌, ◌↔◌, ◌∙◌, ℕ, ◌≤◌, ◌⊎◌, List, [], ◌∷◌, ◌++◌, Ok, Err, Option, None, Some, arith, drop}
+use Rattle.std.proofs.Common.{◌≡◌, ◌↔◌, ◌∙◌, ℕ, ◌≤◌, ◌⊎◌, List, [], ◌∷◌, Ok, Err, Option, None, Some, arith, drop}
 use Rattle.std.proofs.Common.{get_or, length, refl, sym, ap, subst, inl, inr, ⊎_elim}
 use Rattle.std.specs.List.{AllByRecursion, AllZip}
 use Rattle.lj_base.specs.Blocks.{Covers}
@@ -34,7 +34,7 @@ use Rattle.lj_verify.specs.Limits.{IsWithinLimits}
 use Rattle.lj_verify.specs.Refusals.{IsRefused}
 use Rattle.lj_verify.specs.declared.refusals.Refusal.{Refusal}
 use Rattle.lj_verify.specs.declared.refusals.Refusal.TheVariants.{Memory as NoMemory}
-use Rattle.lj_cli.specs.Headline.{AcceptsCoverings, IsFounded, IsTold, IsWithin, NeverRise, OffersBlocks, service_of}
+use Rattle.lj_cli.specs.Headline.{AcceptsCoverings, IsFounded, IsTold, IsWithin, NeverRise, service_of}
 
 -- a reply reports a number that may be, or none
 abbrev Reports : Service → Progress → Progress → Type 0

@@ -1,5 +1,5 @@
 -- The text of a script that was served.
-use Rattle.std.proofs.Common.{◌≡◌, ◌∙◌, ◌⊎◌, ℕ, Bool, List, [], ◌∷◌, ◌++◌, ap, ap₂, append_assoc, inl, inr, refl}
+use Rattle.std.proofs.Common.{◌≡◌, ◌∙◌, ◌⊎◌, ℕ, Bool, List, [], ◌++◌, ap, ap₂, append_assoc, inl, inr, refl}
 use Rattle.lj_base.specs.Frames.{Top}
 use Rattle.lj_build.specs.Runs.{IsReport, report_of, sections_text, uploads_of}
 use Rattle.lj_gate.specs.Whole.{IsWholeServed}
@@ -14,8 +14,8 @@ use Rattle.lj_cli.specs.ServeOutput.{IsServeCommandOutput, IsServeOutput, rebuil
 use Rattle.lj_cli.specs.declared.status.TheConstants.{FAULTY}
 use Rattle.lj_cli.proofs.Building.{names_of, sections_replies}
 
-pub served_whole : (script : ScriptValue) (json rebuilt : Bool) (names lent : List (List ℕ)) (ends all : List SessionEnd)
-    (t : Contents) (start middle reported whole : List ℕ) → IsWholeServed script ends t
+pub served_whole : (script : ScriptValue) (json rebuilt : Bool) (names lent : List (List ℕ))
+    (ends all : List SessionEnd) (t : Contents) (start middle reported whole : List ℕ) → IsWholeServed script ends t
     → IsReport script.frame (uploads_of ends) json (report_of script.frame json t.bounds)
     → names ≡ names_of script.clients → lent ≡ names → all ≡ ends → start ≡ []
     → middle ≡ start ++ replies_text lent all → reported ≡ middle ++ report_of t.arena.frame json t.bounds

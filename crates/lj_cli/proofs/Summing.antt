@@ -1,12 +1,12 @@
 -- What serving the generated script comes to.
-use Rattle.std.proofs.Common.{◌≡◌, ◌∙◌, ℕ, zero, suc, ◌+◌, ◌-◌, ◌*◌, ◌^◌, ◌<◌, ◌≤◌, ◌⊎◌, List, [], ◌∷◌, ◌++◌, Ok, Err}
-use Rattle.std.proofs.Common.{Option, None, arith, codes, length, refl, sym, ap, ap₂, subst, inl, inr, append_assoc}
+use Rattle.std.proofs.Common.{◌≡◌, ◌∙◌, ℕ, zero, suc, ◌+◌, ◌-◌, ◌*◌, ◌^◌, ◌≤◌, ◌⊎◌, List, [], ◌∷◌, ◌++◌, Ok}
+use Rattle.std.proofs.Common.{arith, codes, length, refl, sym, ap, ap₂, subst, inl, inr, append_assoc}
 use Rattle.std.proofs.Common.{Bool, append-nil, drop, length-append}
 use Rattle.std.proofs.Math.Seq.{drop-append_seam}
 use Rattle.std.specs.List.{sum_by}
 use Rattle.lj_base.specs.Blocks.{Covers}
 use Rattle.lj_base.specs.Bounds.{at_cell}
-use Rattle.lj_base.specs.Cells.{IsCell, Triple}
+use Rattle.lj_base.specs.Cells.{Triple}
 use Rattle.lj_base.specs.Colex.{choose}
 use Rattle.lj_base.specs.Frames.{InFrame, Top}
 use Rattle.lj_blockfile.specs.BlockFiles.{AreBlocksOf, blocks_text}
@@ -27,7 +27,8 @@ use Rattle.lj_script.specs.declared.scripts.Command.{Command}
 use Rattle.lj_script.specs.declared.scripts.Command.TheVariants.{Upload as Offered, Bound, Settle}
 use Rattle.lj_session.specs.AcceptedUploads.{AcceptsEach, uploads_after}
 use Rattle.lj_session.specs.Outcomes.{Outcome, UploadGives, held}
-use Rattle.lj_session.specs.Replies.{AreReplies, IsReadReply, Progress, ReportsBound, Service, no_progress, outcome_line}
+use Rattle.lj_session.specs.Replies.{AreReplies, IsReadReply, Progress, ReportsBound, Service, no_progress}
+use Rattle.lj_session.specs.Replies.{outcome_line}
 use Rattle.lj_session.specs.ReplyTexts.{accepted_line, bound_line, numbers_line, settled_line}
 use Rattle.lj_session.specs.declared.ends.SessionEnd.{SessionEnd}
 use Rattle.lj_table.specs.Tables.{Contents}
@@ -135,8 +136,10 @@ accepts m g =
       sets_in = omega (arith, sets, power.1);
       marks_in = omega (arith, few, marks);
     } in
-    inl (upload_inside (2 ^ m) power.0 power.1, inl (gen_blocks m, g.read, inl (tt, inl ((omega arith, omega (arith, few)),
-    inl (within, g.covers, refl)))))
+    inl (
+      upload_inside (2 ^ m) power.0 power.1,
+      inl (gen_blocks m, g.read, inl (tt, inl ((omega arith, omega (arith, few)), inl (within, g.covers, refl)))),
+    )
 
 -- what the client's session comes to
 pub record IsBigSession (m : ℕ) (e : SessionEnd) : Type 0 where
@@ -164,8 +167,21 @@ module _ (one : (f : Top) (before : Held) (command : Command) (a b : Outcome) �
       ∷ Settle ∷ Bound (upload_cell (2 ^ m)) ∷ Bound (derived_cell (2 ^ m)) ∷ []) no_progress text end
       → (whole : ℕ) × (derived : ℕ)
       × (text ≡ accepted_line (gen_upload m) ++ (settled_line ++ bound_lines m whole derived))
-  replies_of s m text end framed named g (here, rest, middle, (outcome, gives, line, is),
-      (here2, rest2, middle2, settled, (here3, rest3, middle3, is3, (here4, rest4, middle4, is4, none, e4), e3), e2), e) =
+  replies_of s m text end framed named g (
+    here,
+    rest,
+    middle,
+    (outcome, gives, line, is),
+    (
+      here2,
+      rest2,
+      middle2,
+      settled,
+      (here3, rest3, middle3, is3, (here4, rest4, middle4, is4, none, e4), e3),
+      e2,
+    ),
+    e,
+  ) =
       let power = power_in m g.low g.high in
       let command = Offered (upload_cell (2 ^ m)) (blocks_text (gen_blocks m)) in
       let ok : outcome ≡ Ok (gen_covering m) =
@@ -264,5 +280,5 @@ summed m n ends lent e t front lines whole cells sum rebuilt h served same only 
       text_is = text
           ∙ ap₂ (λ (k : ℕ) (x : List ℕ). big_text m k x cells sum rebuilt) count there
           ∙ ap₂ (λ (k l : ℕ). big_text m (length (gen_blocks m)) (bound_lines m h.whole h.derived) k l rebuilt)
-              number total;
+          number total;
     }

@@ -24,8 +24,8 @@ abbrev pub bound_lines : ℕ → ℕ → ℕ → List ℕ
 bound_lines m whole derived =
     bound_line (codes "bound") (upload_cell (2 ^ m)) whole ++ bound_line (codes "bound") (derived_cell (2 ^ m)) derived
 
--- the summary: m; the number of the upload's blocks; the replies to the bounds; how many cells the report lists, and the
--- sum of their bounds; whether the table was made anew
+-- the summary: m; the number of the upload's blocks; the replies to the bounds; how many cells the report lists, and
+-- the sum of their bounds; whether the table was made anew
 abbrev pub big_text : ℕ → ℕ → List ℕ → ℕ → ℕ → Bool → List ℕ
 big_text m blocks lines cells sum rebuilt =
     number_line (codes "big") m ++ (number_line (codes "blocks") blocks ++ (lines

@@ -71,12 +71,5 @@ fn main(rt: HostRuntime) -> ExitCode {
     };
     let mut input = StdSource::new(rt.reader());
     let mut out = StdSink::new(io::writer(&rt));
-    ExitCode::from(ljcr(
-        &rt,
-        rt.alloc(),
-        &words,
-        &mut input,
-        &mut out,
-        &FreeGate,
-    ))
+    ExitCode::from(ljcr(&rt, rt.alloc(), &words, &mut input, &mut out, &FreeGate))
 }

@@ -43,7 +43,11 @@ pub(crate) fn client_names(alloc: Global, script: &Script) -> Result<Vec<Name>, 
 }
 
 // Appends for each client its line and its replies.
-pub(crate) fn put_replies(out: &mut Vec<u8>, names: &[Name], ends: &[SessionEnd]) -> Result<(), Memory>
+pub(crate) fn put_replies(
+    out: &mut Vec<u8>,
+    names: &[Name],
+    ends: &[SessionEnd],
+) -> Result<(), Memory>
     ensures { OnOk result (out.new.items ≡ out.old.items ++ replies_text names.now ends.now) }
 {
     for (name, end) in names.iter().zip(ends) {
@@ -69,7 +73,12 @@ fn put_client_line(out: &mut Vec<u8>, name: &[u8]) -> Result<(), Memory>
 }
 
 // Appends the report of a table's bounds.
-pub(crate) fn put_bounds(alloc: Global, out: &mut Vec<u8>, json: bool, table: &Table) -> Result<(), Memory>
+pub(crate) fn put_bounds(
+    alloc: Global,
+    out: &mut Vec<u8>,
+    json: bool,
+    table: &Table,
+) -> Result<(), Memory>
     ensures report { OnOk result
         (out.new.items ≡ out.old.items ++ report_of table.now.arena.frame json table.now.bounds) }
     ensures count { length table.now.bounds ≡ size_of table.now.arena.frame }

@@ -45,7 +45,8 @@ pub fn equal_reports_law()
 }
 
 /// Where no read and no write fails, a run of `serve` on an input that its source reports prints an output that belongs
-/// to the input, or refuses it as too large, and the summary of a generated script is printed whole; or memory runs out.
+/// to the input, or refuses it as too large, and the summary of a generated script is printed whole; or memory runs
+/// out.
 pub fn served_whole_law()
     ensures serve { (json : _) (i : _) (o : _) (ended : _) → Ends (IsServeCommandOutput json) i o ended →
         IsComplete (IsServeCommandOutput json) i o ended }

@@ -49,7 +49,8 @@ rebuilt 0
 
 const ANN: &[u8] = b"client ann\nupload 5 3 2\n1 2 3\n1 4 5\n2 4 5\n3 4 5\nend\n";
 
-const BOB: &[u8] = b"client bob\nupload 7 3 2\n1 2 4\n2 3 5\n3 4 6\n4 5 7\n1 5 6\n2 6 7\n1 3 7\nend\n";
+const BOB: &[u8] =
+    b"client bob\nupload 7 3 2\n1 2 4\n2 3 5\n3 4 6\n4 5 7\n1 5 6\n2 6 7\n1 3 7\nend\n";
 
 // The report of both uploads.
 const BOTH: &[u8] = b"report
@@ -98,7 +99,11 @@ fn from<'a>(text: &'a [u8], piece: &[u8]) -> &'a [u8] {
 
 #[test]
 fn a_client_is_served(rt: HostRuntime) -> Result<(), Fail> {
-    for line in ["serve --workers 1", "serve --workers=4", "serve --workers 64"] {
+    for line in [
+        "serve --workers 1",
+        "serve --workers=4",
+        "serve --workers 64",
+    ] {
         let (status, sink) = run(&rt, rt.alloc(), line, READER)?;
         assert_eq!(rt; sink.bytes(), READ, "of {line}");
         assert_eq!(rt; status, 0, "of {line}");
@@ -114,7 +119,10 @@ fn a_plan_is_served(rt: HostRuntime) -> Result<(), Fail> {
         let plan = from(sink.bytes(), b"\nplan 6 3 2 7\n1 ");
         let end = from(plan, b" 6 3 2 7 ");
         assert!(rt; !end.is_empty(), "of {line}");
-        assert!(rt; from(end, b"\nend\nbound 6 3 2 7\nreport\n").ends_with(b"\nrebuilt 0\n"), "of {line}");
+        assert!(rt;
+            from(end, b"\nend\nbound 6 3 2 7\nreport\n").ends_with(b"\nrebuilt 0\n"),
+            "of {line}"
+        );
         assert_eq!(rt; status, 0, "of {line}");
     }
     Ok(())
@@ -124,8 +132,18 @@ fn a_plan_is_served(rt: HostRuntime) -> Result<(), Fail> {
 fn two_clients_are_served_in_both_orders(rt: HostRuntime) -> Result<(), Fail> {
     let alloc = rt.alloc();
     let rows: [[&[u8]; 4]; 2] = [
-        [ANN, BOB, b"client ann\naccepted 1 4\n", b"client bob\naccepted 1 7\n"],
-        [BOB, ANN, b"client bob\naccepted 1 7\n", b"client ann\naccepted 1 4\n"],
+        [
+            ANN,
+            BOB,
+            b"client ann\naccepted 1 4\n",
+            b"client bob\naccepted 1 7\n",
+        ],
+        [
+            BOB,
+            ANN,
+            b"client bob\naccepted 1 7\n",
+            b"client ann\naccepted 1 4\n",
+        ],
     ];
     for [first, second, one, other] in rows {
         let input = joined(alloc, &[b"frame 7 3 2\n", first, second])?;
@@ -141,17 +159,38 @@ fn two_clients_are_served_in_both_orders(rt: HostRuntime) -> Result<(), Fail> {
 fn odd_scripts_are_served(rt: HostRuntime) -> Result<(), Fail> {
     let json = b"client a\n{\"cells\":[[3,2,1,2,2,true]],\"frame\":[3,2,1]}\nrebuilt 0\n";
     let rows: [(&str, &[u8], &[u8], u8); 7] = [
-        ("serve --workers 2", b"frame 1 1 1", b"report\nrebuilt 0\n", 0),
-        ("serve --workers 64", b"frame 3 2 1", b"report\n3 2 1 2 2 optimal\nrebuilt 0\n", 0),
-        ("serve --json --workers 2", b"frame 3 2 1\nclient a", json, 0),
+        (
+            "serve --workers 2",
+            b"frame 1 1 1",
+            b"report\nrebuilt 0\n",
+            0,
+        ),
+        (
+            "serve --workers 64",
+            b"frame 3 2 1",
+            b"report\n3 2 1 2 2 optimal\nrebuilt 0\n",
+            0,
+        ),
+        (
+            "serve --json --workers 2",
+            b"frame 3 2 1\nclient a",
+            json,
+            0,
+        ),
         (
             "serve --workers 2",
             b"frame 3 2 1\nclient a\nupload 2 1 1\n1\nend\nbound 4 2 1\nexpand 2 2 1\n",
-            b"client a\nrefused uncovered 2\noutside 4 2 1\nexpand 2 2 1 1\n1 2\nreport\n3 2 1 2 2 optimal\nrebuilt 0\n",
+            b"client a\nrefused uncovered 2\noutside 4 2 1\nexpand 2 2 1 1\n1 2\nreport\n3 2 1 2 2 optimal\n\
+                rebuilt 0\n",
             0,
         ),
         ("serve --workers 2", b"", b"fault no frame\n", 3),
-        ("serve --workers 2", b"frame 3 2 1\nsettle\n", b"fault line 2 bad line\n", 3),
+        (
+            "serve --workers 2",
+            b"frame 3 2 1\nsettle\n",
+            b"fault line 2 bad line\n",
+            3,
+        ),
         (
             "serve --workers 2",
             b"frame 3 2 1\nclient a\nupload 3 2 1\n1 2\n",
@@ -209,11 +248,20 @@ fn generated_scripts_are_served(rt: HostRuntime) -> Result<(), Fail> {
 }
 
 // A run of `serve` on the input ends with the report that `build` prints, and with whether the table was made anew.
-fn reports_are_equal<R: Threads + Wait + Sync>(rt: &R, alloc: Global, input: &[u8]) -> Result<bool, Fail> {
+fn reports_are_equal<R: Threads + Wait + Sync>(
+    rt: &R,
+    alloc: Global,
+    input: &[u8],
+) -> Result<bool, Fail> {
     let (_, sink) = run(rt, alloc, "build", input)?;
     let text = joined(alloc, &[from(sink.bytes(), b"report\n"), b"rebuilt 0\n"])?;
     let mut equal = true;
-    for line in ["serve --workers 1", "serve --workers 2", "serve --workers 8", "serve --workers 64"] {
+    for line in [
+        "serve --workers 1",
+        "serve --workers 2",
+        "serve --workers 8",
+        "serve --workers 64",
+    ] {
         let (_, sink) = run(rt, alloc, line, input)?;
         equal = equal && from(sink.bytes(), b"report\n") == text.as_slice();
     }
@@ -225,8 +273,24 @@ fn build_and_serve_print_one_report(rt: HostRuntime) -> Result<(), Fail> {
     let alloc = rt.alloc();
     let inputs = [
         joined(alloc, &[READER])?,
-        joined(alloc, &[b"frame 8 4 3\n", ANN, BOB, b"client c\nsettle\nbound 8 4 3\n"])?,
-        joined(alloc, &[b"frame 9 5 3\n", BOB, b"plan 9 5 3\nclient d\nclient e\nsettle\n", ANN])?,
+        joined(
+            alloc,
+            &[
+                b"frame 8 4 3\n",
+                ANN,
+                BOB,
+                b"client c\nsettle\nbound 8 4 3\n",
+            ],
+        )?,
+        joined(
+            alloc,
+            &[
+                b"frame 9 5 3\n",
+                BOB,
+                b"plan 9 5 3\nclient d\nclient e\nsettle\n",
+                ANN,
+            ],
+        )?,
         gen_script(alloc, 3)?,
         gen_script(alloc, 4)?,
     ];
