@@ -1,30 +1,26 @@
 -- What `serve` prints keeps the promises of the headline, and has the report that `build` prints.
-use Rattle.std.proofs.Common.{◌≡◌, ◌↔◌, ◌⊎◌, ◌∙◌, ℕ, ◌≤◌, Bool, List, [], ◌∷◌, ◌++◌, Option, None, Some, IfSome, arith}
-use Rattle.std.proofs.Common.{length, refl, sym, ap, subst, inl, inr, ⊎_elim}
+use Rattle.std.proofs.Common.{◌≡◌, ◌↔◌, ◌⊎◌, ◌∙◌, ℕ, ◌≤◌, Bool, List, [], ◌++◌, Some, IfSome, arith}
+use Rattle.std.proofs.Common.{length, sym, ap, subst, inl, inr, ⊎_elim}
 use Rattle.std.proofs.lemmas.Option.{IfSome_then}
 use Rattle.std.specs.List.{Contains}
-use Rattle.lj_base.specs.Cells.{IsCell, Triple}
+use Rattle.lj_base.specs.Cells.{IsCell}
 use Rattle.lj_base.specs.Frames.{Top}
-use Rattle.lj_base.specs.Streams.{Appends, IsAtEnd, Rose}
+use Rattle.lj_base.specs.Streams.{Appends, Rose}
 use Rattle.lj_base.specs.declared.limits.TheConstants.{MAX_INPUT}
-use Rattle.lj_build.specs.Closing.{IsClosed}
-use Rattle.lj_build.specs.Runs.{AreBuilt, IsBuildOutput, IsReport, report_of, sections_text, uploads_of}
+use Rattle.lj_build.specs.Runs.{AreBuilt, IsBuildOutput, IsReport, sections_text, uploads_of}
 use Rattle.lj_cover.specs.Rules.{Upload}
-use Rattle.lj_gate.specs.Whole.{IsWholeServed}
 use Rattle.lj_script.specs.Faults.{IsScriptFault}
 use Rattle.lj_script.specs.Scripts.{IsScript}
 use Rattle.lj_script.specs.Values.{ScriptValue, SectionValue}
 use Rattle.lj_script.specs.declared.faults.ScriptFault.{ScriptFault}
 use Rattle.lj_session.specs.AcceptedUploads.{AreAcceptedOfAll, IsAcceptedIn}
 use Rattle.lj_session.specs.declared.ends.SessionEnd.{SessionEnd}
-use Rattle.lj_table.specs.Tables.{Contents}
-use Rattle.lj_cli.specs.BuildOutput.{IsBuildCommandOutput, replies_text, script_fault_line}
+use Rattle.lj_cli.specs.BuildOutput.{IsBuildCommandOutput, script_fault_line}
 use Rattle.lj_cli.specs.Ends.{Ends, HasOutput, Input, Output, Prints, too_large_text}
-use Rattle.lj_cli.specs.Headline.{HasHeadline, IsHeadline}
+use Rattle.lj_cli.specs.Headline.{HasHeadline, IsHeadline, KeepsHeadline}
 use Rattle.lj_cli.specs.Running.{HasServed}
-use Rattle.lj_cli.specs.ServeOutput.{HaveOneReport, IsServeCommandOutput, IsServeOutput, rebuilt_line}
+use Rattle.lj_cli.specs.ServeOutput.{HaveOneReport, IsServeCommandOutput, IsServeOutput}
 use Rattle.lj_cli.specs.declared.status.TheConstants.{DONE, FAULTY, NO_MEMORY, TOO_LARGE}
-use Rattle.lj_cli.proofs.Building.{names_of, sections_replies}
 use Rattle.lj_cli.proofs.Ending.{small, whole_is}
 use Rattle.lj_cli.proofs.Replied.{Laws, told}
 
@@ -78,22 +74,27 @@ module _ (texts : (f : Top) (us : List Upload) (json : Bool) (a b : List ℕ) �
     }
 
     -- of an output that belongs to the bytes and that was printed whole with status 0
-    served_headline : (json : Bool) (bytes text : List ℕ) (o : Output) → IsServeCommandOutput json bytes text DONE
-        → Appends o.written o.written_now text → (script : ScriptValue) × (whole : List ℕ)
-        × IsScript bytes script × IsHeadline script json whole × Appends o.written o.written_now whole
-    served_headline json bytes text o (inl h) put =
-        (h.script, text, h.spelled, headline bytes text h.script json h.spelled h.output, put)
-    served_headline json bytes text o (inr h) put = absurd (omega (arith, h.faulty))
+    served_headline : (json : Bool) (i : Input) (bytes text : List ℕ) (o : Output)
+        → IfSome i.left (λ left. bytes ≡ left) → IsServeCommandOutput json bytes text DONE
+        → Appends o.written o.written_now text → KeepsHeadline json i o
+    served_headline json i bytes text o all (inl h) put = record {
+      bytes = bytes;
+      all = all;
+      script = h.script;
+      spelled = h.spelled;
+      text = text;
+      headline = headline bytes text h.script json h.spelled h.output;
+      written = put;
+    }
+    served_headline json i bytes text o all (inr h) put = absurd (omega (arith, h.faulty))
 
     -- so a run that ends well keeps them
     pub run_headline : (json : Bool) (i : Input) (o : Output) (ended : ℕ) → Ends (IsServeCommandOutput json) i o ended
         → HasHeadline json i o ended
     run_headline json i o ended (inl h) done =
         let put = ended_well o h.text h.status ended h.printed done in
-        IfSome_then i.left (whole_is i.left i.left_now h.bytes h.read.taken h.at_end) (λ all is.
-        served_headline json all h.text o
-        (subst (λ (n : ℕ). IsServeCommandOutput json all h.text n) put.0
-        (subst (λ (b : List ℕ). IsServeCommandOutput json b h.text h.status) is h.belongs)) put.1)
+        served_headline json i h.bytes h.text o (whole_is i.left i.left_now h.bytes h.read.taken h.at_end)
+        (subst (λ (n : ℕ). IsServeCommandOutput json h.bytes h.text n) put.0 h.belongs) put.1
     run_headline json i o ended (inr (inl h)) done =
         let put = ended_well o too_large_text TOO_LARGE ended h.printed done in absurd (omega (arith, put.0))
     run_headline json i o ended (inr (inr (inl h))) done = absurd (omega (arith, h.status, done))

@@ -95,8 +95,17 @@ pub record IsHeadline (script : ScriptValue) (json : Bool) (text : List ℕ) : T
   pub as_build : (other : List ℕ) → IsBuildOutput script json other → (others : List SessionEnd)
       × AreBuilt script.frame [] script.clients others × (other ≡ sections_text script.clients others ++ report)
 
--- where a run ends with status 0 and its source reports its bytes, these spell a script, and what was written is what
--- `serve` promises of it
+-- a run read these bytes, which are all that its source had, where it reports them; they spell a script, and what was
+-- written is what `serve` promises of it
+pub record KeepsHeadline (json : Bool) (i : Input) (o : Output) : Type 0 where
+  pub bytes : List ℕ
+  pub all : IfSome i.left (λ left. bytes ≡ left)
+  pub script : ScriptValue
+  pub spelled : IsScript bytes script
+  pub text : List ℕ
+  pub headline : IsHeadline script json text
+  pub written : Appends o.written o.written_now text
+
+-- a run that ends with status 0 keeps the promises of `serve`
 abbrev pub HasHeadline : Bool → Input → Output → ℕ → Type 0
-HasHeadline json i o ended = ended ≡ DONE → IfSome i.left (λ bytes. (script : ScriptValue) × (text : List ℕ)
-    × IsScript bytes script × IsHeadline script json text × Appends o.written o.written_now text)
+HasHeadline json i o ended = ended ≡ DONE → KeepsHeadline json i o
