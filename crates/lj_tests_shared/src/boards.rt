@@ -1,0 +1,126 @@
+ghost use Rattle.std.specs.Prelude.{◌≡◌, [], IfOk};
+ghost use Rattle.lj_base.specs.Frames.{InFrame};
+ghost use Rattle.lj_board.specs.Seen.{NoneRises};
+ghost use Rattle.lj_cover.specs.Rules.{triple};
+
+use crate::given::{EveryUpload, cell_of, five, four, seven};
+use lj_base::{Cell, Memory};
+use lj_board::{Board, Pass};
+use lj_shared::Shared;
+use lj_table::Table;
+use std::alloc::Global;
+use std::test::Fail;
+use std::thread::{Threads, join};
+
+// Lowers the word of a cell to a table's bound there.
+fn lower(board: &Board<EveryUpload>, pass: &mut Pass, table: &Table, c: Cell)
+    requires pass { pass.old.board ≡ board.now }
+    requires frame { table.now.arena.frame ≡ record { top = triple 7 3 2 } }
+    requires inside { InFrame (record { top = triple 7 3 2 }) c }
+    ensures { NoneRises pass.old pass.new }
+{
+    pass.lower(board, c, table.bound(c));
+}
+
+// A table of the frame of (7,3,2).
+fn table(alloc: Global) -> Result<Table, Memory>
+    ensures { IfOk result (λ t. (t.arena.frame ≡ record { top = triple 7 3 2 }) × (t.arena.uploads ≡ [])) }
+{
+    Table::start(alloc, seven())
+}
+
+#[test]
+fn passes_see_what_others_lower(rt: HostRuntime) -> Result<(), Fail> {
+    let alloc = rt.alloc();
+    let (shared, mut p): (Shared<EveryUpload>, Pass) = Shared::start(alloc, seven(), 0)?;
+    let board = shared.board();
+    let (mut low, mut high) = (table(alloc)?, table(alloc)?);
+    low.accept(four(alloc)?)?;
+    high.accept(five(alloc)?)?;
+    let mut q = p.split(board);
+    assert_eq!(rt; p.peek(board, cell_of(5)), 10);
+    lower(board, &mut q, &low, cell_of(5));
+    assert_eq!(rt; p.peek(board, cell_of(5)), 4);
+    assert_eq!(rt; high.bound(cell_of(5)), 5);
+    lower(board, &mut p, &high, cell_of(5));
+    assert_eq!(rt; q.peek(board, cell_of(5)), 4);
+    p.join(board, q);
+    assert_eq!(rt; p.peek(board, cell_of(5)), 4);
+    Ok(())
+}
+
+// Looks at cells and lowers them, by chance, and remembers what it saw; whether a number rose.
+fn has_risen(
+    board: &Board<EveryUpload>,
+    mut pass: Pass,
+    low: &Table,
+    high: &Table,
+    seed: u64,
+) -> bool
+    requires pass { pass.board ≡ board.now }
+    requires low { low.now.arena.frame ≡ record { top = triple 7 3 2 } }
+    requires high { high.now.arena.frame ≡ record { top = triple 7 3 2 } }
+{
+    let mut last = [u64::MAX; 8];
+    let mut number = seed;
+    for _ in 0..20_000u64 {
+        number = number
+            .wrapping_mul(6_364_136_223_846_793_005)
+            .wrapping_add(1);
+        let v = 3 + ((number >> 33) % 5) as u8;
+        if number >> 60 == 0 {
+            lower(board, &mut pass, low, cell_of(v));
+        } else if number >> 60 < 3 {
+            lower(board, &mut pass, high, cell_of(v));
+        }
+        let seen = pass.peek(board, cell_of(v));
+        if seen > last[v as usize] {
+            return true;
+        }
+        last[v as usize] = seen;
+    }
+    false
+}
+
+// Two threads.
+fn has_risen_in_two<R: Threads + Sync>(
+    rt: &R,
+    board: &Board<EveryUpload>,
+    passes: (Pass, Pass),
+    low: &Table,
+    high: &Table,
+    seed: u64,
+) -> bool
+    requires first { passes.0.board ≡ board.now }
+    requires second { passes.1.board ≡ board.now }
+    requires low { low.now.arena.frame ≡ record { top = triple 7 3 2 } }
+    requires high { high.now.arena.frame ≡ record { top = triple 7 3 2 } }
+{
+    let (p, q) = passes;
+    let (a, b) = join(
+        rt,
+        || has_risen(board, p, low, high, seed),
+        || has_risen(board, q, low, high, !seed),
+    );
+    a || b
+}
+
+#[test]
+fn four_threads_see_no_number_rise(rt: HostRuntime) -> Result<(), Fail> {
+    let alloc = rt.alloc();
+    let (shared, mut p): (Shared<EveryUpload>, Pass) = Shared::start(alloc, seven(), 0)?;
+    let board = shared.board();
+    let (mut low, mut high) = (table(alloc)?, table(alloc)?);
+    low.accept(four(alloc)?)?;
+    low.settle(alloc)?;
+    high.accept(five(alloc)?)?;
+    let (q, r, s) = (p.split(board), p.split(board), p.split(board));
+    let (low, high) = (&low, &high);
+    let (a, b) = join(
+        &rt,
+        || has_risen_in_two(&rt, board, (p, q), low, high, 1),
+        || has_risen_in_two(&rt, board, (r, s), low, high, 2),
+    );
+    assert!(rt; !a && !b);
+    Ok(())
+}
