@@ -67,9 +67,9 @@ for m in 5 6; do
     row "big_$m"
 done
 
-# Sixteen clients with 40 uploads of (28,25,8) each: nine blocks, which leave out three points each and so cover, 24
-# times over. A check marks some 233 million sets.
-awk -v over=24 'BEGIN {
+# Sixteen clients with 40 uploads of (28,25,8) each: nine blocks, which leave out three points each and so cover, three
+# times over. A check marks some 29 million sets.
+awk -v over=3 'BEGIN {
     print "frame 28 25 8"
     for (b = 0; b < 9; b++) {
         line = ""
