@@ -17,7 +17,7 @@ mod common;
 use common::{Binomials, Block, binomials, report};
 
 // Words that are marked at a time, words that a block's strings may take, and words that all workers' maps may take.
-const PIECE: usize = 65536;
+const PIECE: usize = 81920;
 const SCRATCH: usize = 8192;
 const SHARED: usize = 1 << 23;
 
@@ -143,9 +143,16 @@ impl Check {
             0 => range.set(0, 1),
             1 => block.iter().for_each(|p| range.set(usize::from(*p / 64), 1 << (*p % 64))),
             t => {
-                let v = block.last().map_or(0, |p| usize::from(*p) + 1);
-                make_string(&self.table, block, v, self.size, scratch);
-                range.mark_above(&self.table, block, t, self.size, 0, scratch);
+                // Points whose sets all come after the range are left out, and of the string those that are not among
+                // the `size` least ones of a set.
+                let high = 64 * (range.first_word + range.words.len()) as u64;
+                let n = block.iter().rposition(|p| self.table[t][usize::from(*p)] < high).map_or(0, |i| i + 1);
+                if n >= t {
+                    let m = n - (t - self.size - 1);
+                    let v = usize::from(block[m - 1]) + 1;
+                    make_string(&self.table, &block[..m], v, self.size, scratch);
+                    range.mark_above(&self.table, &block[..n], t, self.size, 0, scratch);
+                }
             }
         }
     }

@@ -4,8 +4,9 @@ use Rattle.std.proofs.Common.{OnErr, decimal, drop, get_or, length, set, take, r
 use Rattle.std.proofs.Common.{append_assoc, append-nil, length-append, ⊎_elim}
 use Rattle.std.proofs.lemmas.Bool.{cases_eq}
 use Rattle.std.proofs.lemmas.Fmt.{decimal_digit, decimal_step, length-decimal-le}
-use Rattle.std.proofs.lemmas.List.{get_or-set_other, get_or-set_same, length-take-le, take-append-drop}
-use Rattle.std.proofs.lemmas.List.{take-append-le, take-take, take_at, take_more}
+use Rattle.std.proofs.lemmas.Grind.{take-set_at}
+use Rattle.std.proofs.lemmas.List.{get_or-set_other, get_or-set_same, length-set, length-take-le, take-append-drop}
+use Rattle.std.proofs.lemmas.List.{take-append-le, take-set, take-take, take_at, take_more, take_more_set}
 use Rattle.std.proofs.lemmas.Nat.{div_below}
 use Rattle.lj_blockfile.specs.BlockFiles.{blocks_text}
 use Rattle.lj_blockfile.specs.BlockLines.{block_line}
@@ -21,35 +22,32 @@ block_line-push (q ∷ (r ∷ b)) p some =
     ap (λ line. decimal (suc q) ++ 32 ∷ line) (block_line-push (r ∷ b) p (omega arith))
     ∙ sym (append_assoc (decimal (suc q)) (32 ∷ block_line (r ∷ b)) (32 ∷ decimal (suc p)))
 
-module _ (b line now : List ℕ) (i p : ℕ) (inside : i < length b) (point : p ≡ get_or b i 0)
-    (so_far : line ≡ block_line (take i b)) where
+module _ (b : List ℕ) (i p : ℕ) (inside : i < length b) (point : p ≡ get_or b i 0) where
   next_point : take (i + 1) b ≡ take i b ++ p ∷ []
   next_point = take_more b i 0 inside ∙ ap (λ q. take i b ++ q ∷ []) (sym point)
 
-  pub line-first : i ≡ 0 → now ≡ line ++ decimal (p + 1) → now ≡ block_line (take (i + 1) b)
-  line-first start is =
-      let next : p + 1 ≡ suc p = omega arith in
+  -- the first point of a line
+  pub line-first : i ≡ 0 → block_line (take (i + 1) b) ≡ block_line (take i b) ++ decimal (p + 1)
+  line-first start =
+      let next : suc p ≡ p + 1 = omega arith in
       let none : take i b ≡ [] = ap (λ n. take n b) start in
       let one : take (i + 1) b ≡ p ∷ [] = next_point ∙ ap (λ ps. ps ++ p ∷ []) none in
-      is ∙ ap (λ l. l ++ decimal (p + 1)) (so_far ∙ ap block_line none) ∙ ap decimal next ∙ ap block_line (sym one)
+      ap block_line one ∙ ap decimal next ∙ sym (ap (λ ps. block_line ps ++ decimal (p + 1)) none)
 
-  pub line-next : (mid : List ℕ) → 0 < i → mid ≡ line ++ 32 ∷ [] → now ≡ mid ++ decimal (p + 1)
-      → now ≡ block_line (take (i + 1) b)
-  line-next mid later mid_is is =
-      let front = block_line (take i b) in
-      let next : p + 1 ≡ suc p = omega arith in
+  -- a point after others
+  pub line-next : 0 < i
+      → block_line (take (i + 1) b) ≡ (block_line (take i b) ++ 32 ∷ []) ++ decimal (p + 1)
+  line-next later =
+      let next : suc p ≡ p + 1 = omega arith in
       let count : length (take i b) ≡ i = length-take-le i b (omega arith) in
-      is ∙ ap (λ m. m ++ decimal (p + 1)) (mid_is ∙ ap (λ l. l ++ 32 ∷ []) so_far)
-      ∙ append_assoc front (32 ∷ []) (decimal (p + 1)) ∙ ap (λ n. front ++ 32 ∷ decimal n) next
-      ∙ sym (block_line-push (take i b) p (omega (arith, count))) ∙ ap block_line (sym next_point)
+      ap block_line next_point ∙ block_line-push (take i b) p (omega (arith, count))
+      ∙ ap (λ n. block_line (take i b) ++ 32 ∷ decimal n) next
+      ∙ sym (append_assoc (block_line (take i b)) (32 ∷ []) (decimal (p + 1)))
 
--- a line is short: three bytes a point
-pub short-more : (mid now : List ℕ) (i p : ℕ) → p + 1 < 100 → now ≡ mid ++ decimal (p + 1) → length mid ≤ 3 * i
-    → length now + 1 ≤ 3 * (i + 1)
-short-more mid now i p small is room =
-    let digits : length (decimal (p + 1)) ≤ 2 =
-    length-decimal-le 2 (p + 1) (omega arith) (omega arith) (omega arith) in
-    omega (arith, ap length is, length-append mid (decimal (p + 1)), digits, room)
+-- a text that is written after what was there
+pub written-more : (front line more text now : List ℕ) → text ≡ front ++ line → now ≡ text ++ more
+    → now ≡ front ++ (line ++ more)
+written-more front line more text now so_far is = is ∙ ap (λ t. t ++ more) so_far ∙ append_assoc front line more
 
 -- ---- the texts of points
 
@@ -113,6 +111,32 @@ point-two texts p all large small =
     let h = all.each p small in
     sym (both-bytes text h.two) ∙ ap (λ n. take n text) (sym (two-digits (suc p) (omega arith) (omega arith)))
     ∙ h.digits ∙ ap decimal next
+
+-- and its two bytes are written, of which the first ones count
+pub put-one : (texts : List (List ℕ)) (p : ℕ) (out : List ℕ) (start : ℕ) → AreTexts texts → p < 9
+    → start + 2 ≤ length out
+    → take (start + 1)
+    (set (set out start (get_or (get_or texts p []) 0 0)) (start + 1) (get_or (get_or texts p []) 1 0))
+    ≡ take start out ++ decimal (p + 1)
+put-one texts p out start all small room =
+    let text = get_or texts p [] in
+    take-set (set out start (get_or text 0 0)) (start + 1) (get_or text 1 0)
+    ∙ take_more_set out start (get_or text 0 0) (omega arith)
+    ∙ ap (λ t. take start out ++ t) (point-one texts p all small)
+
+pub put-two : (texts : List (List ℕ)) (p : ℕ) (out : List ℕ) (start : ℕ) → AreTexts texts → 9 ≤ p → p < 99
+    → start + 2 ≤ length out
+    → take (start + 2)
+    (set (set out start (get_or (get_or texts p []) 0 0)) (start + 1) (get_or (get_or texts p []) 1 0))
+    ≡ take start out ++ decimal (p + 1)
+put-two texts p out start all large small room =
+    let text = get_or texts p [] in
+    let once = set out start (get_or text 0 0) in
+    let len = length-set out start (get_or text 0 0) in
+    take-set_at once (start + 1) (start + 2) (get_or text 1 0) (omega arith) (omega (arith, len))
+    ∙ ap (λ t. t ++ get_or text 1 0 ∷ []) (take_more_set out start (get_or text 0 0) (omega arith))
+    ∙ append_assoc (take start out) (get_or text 0 0 ∷ []) (get_or text 1 0 ∷ [])
+    ∙ ap (λ t. take start out ++ t) (point-two texts p all large small)
 
 -- ---- lines one after another
 

@@ -1,5 +1,5 @@
 -- Where the block at a position comes from, and the blocks from there on.
-use Rattle.std.specs.Prelude.{◌≡◌, ℕ, ◌+◌, ◌*◌, ◌<◌, ◌≤◌, List, drop, get_or, length, slice_index, take}
+use Rattle.std.specs.Prelude.{◌≡◌, ℕ, ◌+◌, ◌*◌, ◌<◌, ◌≤◌, List, [], ◌∷◌, drop, get_or, length, slice_index, take}
 use Rattle.std.specs.List.{AllByRecursion, Contains, flat_map}
 use Rattle.lj_base.specs.Cells.{Triple}
 use Rattle.lj_cover.specs.BlockLists.{blocks_of_cut, join_blocks, product_blocks}
@@ -35,6 +35,11 @@ pub record IsRun (list : List (List ℕ)) (offset : ℕ) (new : List (List ℕ))
   pub room : n ≤ length new
   pub inside : offset + n ≤ length list
   pub blocks : take n new ≡ take n (drop offset list)
+
+-- the set with another first point
+abbrev pub with_first : ℕ → List ℕ → List ℕ
+with_first p [] = []
+with_first p (x ∷ xs) = p ∷ xs
 
 -- ---- products
 

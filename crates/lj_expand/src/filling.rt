@@ -1,15 +1,17 @@
-ghost use Rattle.std.specs.Prelude.{◌≡◌, ◌+◌, ◌-◌, ◌*◌, ◌<◌, ◌≤◌, [], ◌∷◌, drop, length, map, take};
+ghost use Rattle.std.specs.Prelude.{◌≡◌, ◌+◌, ◌-◌, ◌*◌, ◌<◌, ◌≤◌, [], ◌∷◌, drop, length, map, slice_index, take};
 ghost use Rattle.std.specs.List.{AllByRecursion};
-ghost use Rattle.lj_base.specs.Blocks.{AllBelow};
+ghost use Rattle.lj_base.specs.Blocks.{AllBelow, Ascends, IsBlock};
 ghost use Rattle.lj_base.specs.Colex.{choose, sets};
 ghost use Rattle.lj_cover.specs.BlockLists.{ceil_div, derived2_blocks, derived_blocks, join_blocks, run_blocks};
 ghost use Rattle.lj_cover.specs.Operations.{add_point, drop_last, fill, place, unite};
+ghost use Rattle.lj_expand.specs.Positions.{with_first};
+ghost use Rattle.lj_rank.specs.Ranks.{rank_of};
 
-use crate::bases::{block_of, run_of};
+use crate::bases::run_of;
 use lj_base::Block;
 use lj_cover::laws::points_are_tested;
 use lj_cover::{add_point, drop_last, fill, has_both, relabel, unite, without};
-use lj_rank::{next, rank_law, unrank};
+use lj_rank::{TSet, next, rank_law, unrank};
 
 /// One block, where there is room for it.
 pub(crate) fn fill_one(block: Block, out: &mut [Block])
@@ -35,7 +37,8 @@ pub(crate) fn fill_runs(v: u64, k: u64, i: u64, out: &mut [Block])
     }
 }
 
-/// All sets in colexicographic order, from the `i`-th on.
+/// All sets in colexicographic order, from the `i`-th on. Their first points stand apart, since most often the first
+/// point alone rises.
 pub(crate) fn fill_all(v: u64, k: u64, i: u64, out: &mut [Block])
     requires few { v ≤ 99 }
     requires small { k ≤ 8 }
@@ -47,10 +50,70 @@ pub(crate) fn fill_all(v: u64, k: u64, i: u64, out: &mut [Block])
     }
     rank_law();
     let mut set = unrank(v, k, i);
+    let mut first = first_of(&set);
     for j in 0..out.len() {
-        out[j] = block_of(&set);
-        next(v, &mut set);
+        out[j] = block_with_first(first, &set);
+        first = next_first(v, first, &mut set);
     }
+}
+
+// Makes the set, where its first point stands apart, the next one below `v`, and returns its first point.
+fn next_first(v: u64, first: u8, set: &mut TSet) -> u8
+    requires few { v ≤ 99 }
+    requires below { Ascends 0 v (with_first first set.old) }
+    ensures block { IsBlock v (length set.old) (with_first result set.new) }
+    ensures rank { rank_of (with_first first set.old) + 1 < choose v (length set.old)
+        → rank_of (with_first result set.new) ≡ rank_of (with_first first set.old) + 1 }
+{
+    if set.len() > 1 && first + 1 < set.at(1) {
+        return first + 1;
+    }
+    let mut whole = set_with_first(first, set);
+    next(v, &mut whole);
+    *set = whole;
+    first_of(&whole)
+}
+
+// The set's first point, if it has one.
+fn first_of(set: &TSet) -> u8
+    ensures same { with_first result set.now ≡ set.now }
+    ensures small { result < 99 }
+{
+    if set.len() > 0 { set.at(0) } else { 0 }
+}
+
+// The block of the set with another first point.
+fn block_with_first(first: u8, set: &TSet) -> Block
+    requires { Ascends 0 99 (with_first first set.now) }
+    ensures { result ≡ with_first first set.now }
+{
+    let mut block = Block::empty();
+    for i in 0..set.len() {
+        let point = point_with_first(first, set, i);
+        block.push(point);
+    }
+    block
+}
+
+// The set with another first point.
+fn set_with_first(first: u8, set: &TSet) -> TSet
+    requires { Ascends 0 99 (with_first first set.now) }
+    ensures { result ≡ with_first first set.now }
+{
+    let mut whole = TSet::empty();
+    for i in 0..set.len() {
+        let point = point_with_first(first, set, i);
+        whole.push(point);
+    }
+    whole
+}
+
+// The point at a place of the set with another first point.
+fn point_with_first(first: u8, set: &TSet, i: u64) -> u8
+    requires { i < length set.now }
+    ensures { result ≡ slice_index (with_first first set.now) i }
+{
+    if i == 0 { first } else { set.at(i) }
 }
 
 /// The blocks from the `i`-th on.

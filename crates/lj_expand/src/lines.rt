@@ -1,10 +1,10 @@
-ghost use Rattle.std.specs.Prelude.{◌≡◌, ◌+◌, ◌<◌, ◌≤◌, suc, [], ◌∷◌, ◌++◌, decimal, length, slice_index, take};
+ghost use Rattle.std.specs.Prelude.{◌≡◌, ◌+◌, ◌*◌, ◌<◌, ◌≤◌, [], ◌∷◌, ◌++◌, decimal, length, take};
+ghost use Rattle.lj_blockfile.specs.BlockFiles.{blocks_text};
 ghost use Rattle.lj_blockfile.specs.BlockLines.{block_line};
 ghost use Rattle.lj_expand.specs.Lines.{AreTexts, IsText};
 
 use itoa::Buffer;
 use lj_base::Block;
-use std::marker::Model;
 
 /// The texts of all points, from 1 to 99: two bytes for each, of which the first alone counts up to 9.
 pub(crate) type PointTexts = [[u8; 2]; 99];
@@ -34,76 +34,57 @@ fn text_of(n: u8) -> [u8; 2]
     }
 }
 
-/// The line of a block, in a buffer of its own: 25 points of two digits, and a byte after each.
-#[derive(Drop)]
-pub(crate) struct Line {
-    bytes: [u8; 75],
-    len: usize,
+/// The most bytes of a line: 25 points of two digits, and a byte after each.
+pub(crate) const LINE: usize = 75;
+
+/// Writes a line for each of the blocks at the front of the text, and returns where they end. Each text of a point is
+/// copied by its two bytes; what is too much is written over.
+pub(crate) fn write_lines(blocks: &[Block], texts: &PointTexts, out: &mut [u8]) -> usize
+    requires texts { AreTexts texts.now }
+    requires room { LINE * length blocks.now ≤ length out.old }
+    ensures end { result ≤ length out.new }
+    ensures lines { take result out.new ≡ blocks_text blocks.now }
+{
+    let mut end = 0;
+    for block in blocks {
+        end = write_line(block, texts, out, end);
+    }
+    end
 }
 
-impl Model for Line {
-    ghost use Rattle.std.specs.Prelude.{ℕ, List, ◌≤◌, take};
-
-    ghost Value = { List ℕ };
-
-    ghost view = { λ c. take c.len c.bytes };
-
-    ghost invariant = { λ c. c.len ≤ 75 };
+/// Writes the block's line at a place of the text, and returns where it ends: its points from 1, ascending, with one
+/// space between each two, and LF.
+pub(crate) fn write_line(block: &Block, texts: &PointTexts, out: &mut [u8], start: usize) -> usize
+    requires texts { AreTexts texts.now }
+    requires room { start + LINE ≤ length out.old }
+    ensures end { result ≤ start + LINE }
+    ensures len { length out.new ≡ length out.old }
+    ensures line { take result out.new ≡ take start out.old ++ (block_line block.now ++ 10 ∷ []) }
+{
+    let mut end = start;
+    for i in 0..block.len() {
+        if i > 0 {
+            out[end] = 32;
+            end += 1;
+        }
+        let point = block.at(i);
+        end = write_point(point, texts, out, end);
+    }
+    out[end] = 10;
+    end + 1
 }
 
-impl Line {
-    /// The block's line: its points from 1, ascending, with one space between each two, and LF.
-    pub(crate) fn of(block: &Block, texts: &PointTexts) -> Line
-        requires { AreTexts texts.now }
-        ensures { result ≡ block_line block.now ++ 10 ∷ [] }
-    {
-        let mut line = Line::empty();
-        for i in 0..block.len() {
-            if i > 0 {
-                line.push(32);
-            }
-            let point = block.at(i);
-            line.push_point(point, texts);
-        }
-        line.push(10);
-        line
-    }
-
-    /// Its bytes.
-    pub(crate) fn as_slice(&self) -> &[u8]
-        ensures { result.now ≡ self.now }
-    {
-        &self.bytes[..self.len]
-    }
-
-    fn empty() -> Line
-        ensures { result ≡ [] }
-    {
-        Line {
-            bytes: [0; 75],
-            len: 0,
-        }
-    }
-
-    fn push(&mut self, byte: u8)
-        requires { length self.old < 75 }
-        ensures { self.new ≡ self.old ++ byte ∷ [] }
-    {
-        self.bytes[self.len] = byte;
-        self.len += 1;
-    }
-
-    // Adds the text of a point, which is looked up.
-    fn push_point(&mut self, point: u8, texts: &PointTexts)
-        requires texts { AreTexts texts.now }
-        requires in_range { point < 99 }
-        requires room { length self.old + 2 ≤ 75 }
-        ensures { self.new ≡ self.old ++ decimal (point + 1) }
-    {
-        let text = texts[point as usize];
-        self.push(text[0]);
-        if point >= 9 {
-            self.push(text[1]);
-        }
-    }
+// Writes the text of a point at a place, and returns where it ends.
+fn write_point(point: u8, texts: &PointTexts, out: &mut [u8], start: usize) -> usize
+    requires texts { AreTexts texts.now }
+    requires in_range { point < 99 }
+    requires room { start + 2 ≤ length out.old }
+    ensures end { result ≤ start + 2 }
+    ensures len { length out.new ≡ length out.old }
+    ensures text { take result out.new ≡ take start out.old ++ decimal (point + 1) }
+{
+    let text = texts[point as usize];
+    out[start] = text[0];
+    out[start + 1] = text[1];
+    if point < 9 { start + 1 } else { start + 2 }
 }

@@ -6,7 +6,7 @@ ghost use Rattle.lj_deriv.specs.Nodes.{plan_tree};
 ghost use Rattle.lj_expand.specs.Lines.{AreTexts};
 
 use crate::batches::{fill_batch, no_blocks};
-use crate::lines::{Line, PointTexts, point_texts};
+use crate::lines::{LINE, PointTexts, point_texts, write_line};
 use lj_base::{Block, Sink};
 use lj_deriv::Plan;
 use lj_text::{WriteFault, write_all};
@@ -51,9 +51,10 @@ fn stream_lines<K: Sink>(
     ensures front { OnErr result ((n : ℕ) × (n < length (blocks_text blocks.now))
         × Appends (K.written sink.old) (K.written sink.new) (take n (blocks_text blocks.now))) }
 {
+    let mut line = [0; LINE];
     for block in blocks {
-        let line = Line::of(block, texts);
-        write_all(sink, line.as_slice())?;
+        let end = write_line(block, texts, &mut line, 0);
+        write_all(sink, &line[..end])?;
     }
     Ok(())
 }

@@ -3,13 +3,12 @@ ghost use Rattle.lj_base.specs.Blocks.{Covers};
 ghost use Rattle.lj_blockfile.specs.BlockFiles.{blocks_text};
 ghost use Rattle.lj_cover.specs.Derivations.{expand, root_cell, tree_cost};
 ghost use Rattle.lj_deriv.specs.Nodes.{plan_tree};
-ghost use Rattle.lj_expand.specs.Lines.{AreTexts};
 ghost use Rattle.lj_text.specs.Fields.{Extends};
 
-use crate::batches::{fill_batch, no_blocks};
+use crate::batches::{BATCH, fill_batch, no_blocks};
 use crate::expansion::MAX_EXPANDED;
-use crate::lines::{Line, PointTexts, point_texts};
-use lj_base::{Block, Memory};
+use crate::lines::{LINE, point_texts, write_lines};
+use lj_base::Memory;
 use lj_deriv::Plan;
 use lj_text::{cut_back, put};
 use std::alloc::Global;
@@ -37,24 +36,13 @@ fn append_plan(plan: &Plan, out: &mut Vec<u8>) -> Result<(), Memory>
     let texts = point_texts();
     let cost = plan.cost();
     let mut batch = no_blocks();
+    let mut lines = [0; BATCH * LINE];
     let mut done = 0;
     while done < cost {
         let count = fill_batch(plan, done, &mut batch);
-        append_lines(&batch[..count], &texts, out)?;
+        let end = write_lines(&batch[..count], &texts, &mut lines);
+        put(out, &lines[..end])?;
         done += count as u64;
-    }
-    Ok(())
-}
-
-// Appends a line for each block; where memory ran out a part of them may have been appended.
-fn append_lines(blocks: &[Block], texts: &PointTexts, out: &mut Vec<u8>) -> Result<(), Memory>
-    requires { AreTexts texts.now }
-    ensures ok { OnOk result (out.new.items ≡ out.old.items ++ blocks_text blocks.now) }
-    ensures err { OnErr result (Extends out.old.items out.new.items) }
-{
-    for block in blocks {
-        let line = Line::of(block, texts);
-        put(out, line.as_slice())?;
     }
     Ok(())
 }

@@ -2,12 +2,13 @@
 use Rattle.std.proofs.Common.{◌≡◌, ◌↔◌, inl, inr, ⊎_elim, ℕ, zero, suc, ◌+◌, ◌-◌, ◌*◌, ◌/◌, ◌%◌, ◌<◌, ◌≤◌, List, []}
 use Rattle.std.proofs.Common.{◌∷◌, ◌++◌, length, take, drop, get_or, sym, ap, ◌∙◌, subst, arith}
 use Rattle.std.proofs.lemmas.Bool.{cases_lt}
-use Rattle.std.proofs.lemmas.List.{length_push, take_all, take_at, get_or_past}
+use Rattle.std.proofs.lemmas.List.{get_or-take, get_or_past, length-take-le, length_push, take-take, take_all, take_at}
 use Rattle.std.specs.Int.{bit_at}
 use Rattle.lj_base.specs.Blocks.{Ascends, Has}
 use Rattle.lj_base.specs.Colex.{choose}
 use Rattle.lj_rank.specs.Ranks.{rank_of}
-use Rattle.lj_base.proofs.Ascending.{Ascends-before, Ascends-push, Has-below, Has-from, Has-from_Within}
+use Rattle.lj_base.proofs.Ascending.{Ascends-before, Ascends-push, Ascends-take, Has-at, Has-below, Has-from}
+use Rattle.lj_base.proofs.Ascending.{Has-from_Within}
 use Rattle.lj_base.proofs.Ascending.{Within-from_Has}
 use Rattle.lj_base.proofs.Ascending.{top_cases}
 use Rattle.lj_base.proofs.Lists.{take-by_last}
@@ -129,6 +130,26 @@ marks_prefix laws start y z b string i v s rest k within is has full h =
     let back = (among_before laws b i v s q k within is).1 (g.0, g.1, omega arith) in
     let low = back.0 in
     (q, low, (full.each q (omega (arith, low, room))).1 back.1, at))
+
+-- the string of the first m points has the prefix of each of them
+pub first_room : (b string : List ℕ) (i m v s : ℕ) → i < m → m ≤ length b → v ≡ get_or b i 0
+    → IsStringOf (take m b) s string → choose v s ≤ 64 * length string
+first_room b string i m v s below within is full =
+    let same : get_or (take m b) i 0 ≡ v = get_or-take m b i 0 below ∙ sym is in
+    let long = length-take-le m b within in
+    full.room v (subst (Has (take m b)) same (Has-at (take m b) i (omega (arith, long))))
+
+-- the sets with one more of the first m points, by the prefix of their string
+pub marks_first : SetLaws → (start : ℕ) (y z b string : List ℕ) (i m v s rest : ℕ) → Ascends 0 99 b → i < m
+    → m ≤ length b → v ≡ get_or b i 0 → IsStringOf (take m b) s string
+    → Marks start y z (IsAtPrefix rest string (choose v s)) → Marks start y z (IsRankAmong (take i b) s rest)
+marks_first laws start y z b string i m v s rest k below within is full h =
+    let same : get_or (take m b) i 0 ≡ v = get_or-take m b i 0 below ∙ sym is in
+    let long = length-take-le m b within in
+    let inside : i < length (take m b) = omega (arith, long) in
+    subst (λ c. Marks start y z (IsRankAmong c s rest)) (take-take i m b (omega arith))
+    (marks_prefix laws start y z (take m b) string i v s rest (Ascends-take 0 99 b m k) inside (sym same)
+    (subst (Has (take m b)) same (Has-at (take m b) i inside)) full h)
 
 -- what was marked in words that were clear
 pub string_from_marks : (b zeros new : List ℕ) (v s : ℕ) → Ascends 0 v b → ((i : ℕ) → get_or zeros i 0 ≡ 0)

@@ -57,10 +57,10 @@ fn mark_points(words: &mut [u64], start: u64, block: &Block)
     }
 }
 
-// Of the sets of `t` points among the block's first `n`, marks those of a rank in the range. `rest` is added to each
-// rank. The sets with the same greatest point follow each other: such a run is passed over where it lies outside the
-// range.
-fn mark_among(words: &mut [u64], start: u64, block: &Block, n: u64, t: u64, rest: u64)
+/// Of the sets of `t` points among the block's first `n`, marks those of a rank in the range. `rest` is added to each
+//// rank. The sets with the same greatest point follow each other: such a run is passed over where it lies outside the
+/// range.
+pub(crate) fn mark_among(words: &mut [u64], start: u64, block: &Block, n: u64, t: u64, rest: u64)
     requires some { 2 ≤ t }
     requires small { t ≤ 8 }
     requires enough { t ≤ n }

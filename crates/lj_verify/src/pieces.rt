@@ -6,8 +6,8 @@ use crate::pairs::mark_sets;
 use crate::strings::{SCRATCH, mark_by_strings};
 use lj_base::Block;
 
-// How many words are marked at a time, so that they stay in the processor's cache: 512 kB.
-const PIECE: usize = 65536;
+// How many words are marked at a time, so that they stay in the processor's cache: 640 kB.
+const PIECE: usize = 81920;
 
 /// Marks the rank of each set of `t` points that a block contains, in words of which the first has the ranks from
 /// `64 * start` on: by strings of the ranks of the blocks' sets of `size` points, or by runs of pairs where that is 0.

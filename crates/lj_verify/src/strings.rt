@@ -7,7 +7,7 @@ ghost use Rattle.lj_verify.specs.Strings.{IsStringOf, words_for};
 use crate::bits::mark_prefix;
 use crate::laws::set_laws;
 use crate::limits::{MAX_WORDS, RANK_LIMIT};
-use crate::pairs::mark_block;
+use crate::pairs::{mark_among, mark_block};
 use lj_base::{Block, COST_LIMIT, binom};
 
 // All sets of s points below a point p have the ranks from 0 to binom(p, s) - 1. So the ranks of a block's sets of
@@ -35,15 +35,17 @@ pub(crate) fn mark_by_strings(
     ensures { Marks start words.old words.new (IsRankIn blocks.now t) }
 {
     for block in blocks {
-        mark_by_string(words, start, block, t, size, scratch);
+        mark_by_string(words, start, block, block.len(), t, size, scratch);
     }
 }
 
-// Marks the rank of each set of `t` points of one block.
+// Of the sets of `t` points among the block's first `n`, marks those of a rank in the range. While those with the last
+// of these points all come after the range, that point is left out.
 fn mark_by_string(
     words: &mut [u64],
     start: u64,
     block: &Block,
+    n: u64,
     t: u64,
     size: u64,
     scratch: &mut [u64],
@@ -51,23 +53,67 @@ fn mark_by_string(
     requires some { 1 ≤ size }
     requires size { size < t }
     requires small { t ≤ 8 }
+    requires within { n ≤ length block.now }
+    requires ascends { Ascends 0 99 block.now }
     requires few_words { start + length words.old ≤ MAX_WORDS }
     requires few { length scratch.old ≤ MAX_WORDS }
-    ensures marks { Marks start words.old words.new (IsRankAmong block.now t 0) }
+    ensures marks { Marks start words.old words.new (IsRankAmong (take n block.now) t 0) }
     ensures stays { length scratch.new ≡ length scratch.old }
 {
     set_laws();
-    let len = block.len();
-    if len < t {
+    if n < t {
         return;
     }
-    let v = block.at(len - 1) as u64 + 1;
-    if needs(v, size) > scratch.len() as u64 {
-        return mark_block(words, start, block, t);
+    let high = 64 * (start + words.len() as u64);
+    if binom(block.at(n - 1) as u64, t) >= high {
+        mark_by_string(words, start, block, n - 1, t, size, scratch);
+    } else {
+        mark_first(words, start, block, n, t, size, scratch);
     }
-    make_string(scratch, block, v, size);
+}
+
+// Of the sets of `t` points among the block's first `n`, marks those of a rank in the range. The string has the points
+// alone that can be among the `size` least ones, and the next.
+fn mark_first(
+    words: &mut [u64],
+    start: u64,
+    block: &Block,
+    n: u64,
+    t: u64,
+    size: u64,
+    scratch: &mut [u64],
+)
+    requires some { 1 ≤ size }
+    requires size { size < t }
+    requires small { t ≤ 8 }
+    requires enough { t ≤ n }
+    requires within { n ≤ length block.now }
+    requires ascends { Ascends 0 99 block.now }
+    requires few_words { start + length words.old ≤ MAX_WORDS }
+    requires few { length scratch.old ≤ MAX_WORDS }
+    ensures marks { Marks start words.old words.new (IsRankAmong (take n block.now) t 0) }
+    ensures stays { length scratch.new ≡ length scratch.old }
+{
+    let m = n - (t - size - 1);
+    let v = block.at(m - 1) as u64 + 1;
+    if needs(v, size) > scratch.len() as u64 {
+        return mark_among(words, start, block, n, t, 0);
+    }
+    make_string(scratch, &first_points(block, m), v, size);
     let string = &scratch[..string_words(v, size) as usize];
-    mark_above(words, start, block, len, t, size, 0, string);
+    mark_above(words, start, block, n, m, t, size, 0, string);
+}
+
+// The block's first `m` points.
+fn first_points(block: &Block, m: u64) -> Block
+    ensures { result ≡ take m block.now }
+{
+    let mut first = Block::empty();
+    let len = block.len();
+    for i in 0..len.min(m) {
+        first.push(block.at(i));
+    }
+    first
 }
 
 // How many words the string of the sets of `size` points below `v` takes.
@@ -113,17 +159,20 @@ fn make_string(scratch: &mut [u64], block: &Block, v: u64, size: u64)
     } else {
         make_string(others, block, v, size - 1);
         let lower = &others[..string_words(v, size - 1) as usize];
-        mark_above(string, 0, block, block.len(), size, size - 1, 0, lower);
+        let len = block.len();
+        mark_above(string, 0, block, len, len, size, size - 1, 0, lower);
     }
 }
 
 // Of the sets of `t` points among the block's first `n`, marks those of a rank in the range: for each choice of all but
-// `size` points those with it, of which the string has the others. `rest` is added to each rank.
+// `size` points those with it, of which the string has the others. The string is that of the block's first `m` points,
+// and `rest` is added to each rank.
 fn mark_above(
     words: &mut [u64],
     start: u64,
     block: &Block,
     n: u64,
+    m: u64,
     t: u64,
     size: u64,
     rest: u64,
@@ -137,13 +186,15 @@ fn mark_above(
     requires ascends { Ascends 0 99 block.now }
     requires few_words { start + length words.old ≤ MAX_WORDS }
     requires fits { rest + t * COST_LIMIT ≤ RANK_LIMIT }
-    requires string { IsStringOf block.now size string.now }
+    requires covered { n + size + 1 ≤ m + t }
+    requires first { m ≤ length block.now }
+    requires string { IsStringOf (take m block.now) size string.now }
     requires few { length string.now ≤ MAX_WORDS }
     ensures { Marks start words.old words.new (IsRankAmong (take n block.now) t rest) }
 {
     set_laws();
     if t == size + 1 {
-        return mark_prefixes(words, start, block, n, size, rest, string);
+        return mark_prefixes(words, start, block, n, m, size, rest, string);
     }
     let low = 64 * start;
     let high = low + 64 * words.len() as u64;
@@ -151,18 +202,19 @@ fn mark_above(
         let point = block.at(i) as u64;
         let least = rest + binom(point, t);
         if least < high && low < least + binom(point, t - 1) {
-            mark_above(words, start, block, i, t - 1, size, least, string);
+            mark_above(words, start, block, i, m, t - 1, size, least, string);
         }
     }
 }
 
 // Of the sets of `size + 1` points among the block's first `n`, marks those of a rank in the range: for each greatest
-// point a prefix of the string.
+// point a prefix of the string, which is that of the block's first `m` points.
 fn mark_prefixes(
     words: &mut [u64],
     start: u64,
     block: &Block,
     n: u64,
+    m: u64,
     size: u64,
     rest: u64,
     string: &[u64],
@@ -174,7 +226,9 @@ fn mark_prefixes(
     requires ascends { Ascends 0 99 block.now }
     requires few_words { start + length words.old ≤ MAX_WORDS }
     requires fits { rest + 2 * COST_LIMIT ≤ RANK_LIMIT }
-    requires string { IsStringOf block.now size string.now }
+    requires covered { n ≤ m }
+    requires first { m ≤ length block.now }
+    requires string { IsStringOf (take m block.now) size string.now }
     requires few { length string.now ≤ MAX_WORDS }
     ensures { Marks start words.old words.new (IsRankAmong (take n block.now) (size + 1) rest) }
 {

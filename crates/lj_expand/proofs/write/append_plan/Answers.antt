@@ -14,9 +14,11 @@ loop-done-preserved c =
     let before = c.args.out.now.items in
     record {
       room = omega (arith, c.loop-done.invariant.room, c.fill_batch-count.auto.out);
+      lines = omega (arith, c.loop-done.invariant.lines, c.write_lines-end.auto.out);
       upto = omega (arith, c.fill_batch-count.ensures.count, c.cost-cost.ensures.cost);
       text =
-          c.in_ok-append_lines.ensures.ok ∙ ap (λ t. t ++ blocks_text batch) c.loop-done.invariant.text
+          c.in_ok-put.ensures.ok ∙ ap (λ t. c.loop-done.out.items ++ t) c.write_lines-end.ensures.lines
+          ∙ ap (λ t. t ++ blocks_text batch) c.loop-done.invariant.text
           ∙ append_assoc before (blocks_text (take done bs)) (blocks_text batch)
           ∙ ap (λ t. before ++ t) (sym (text-more bs batch done count c.fill_batch-count.ensures.blocks));
     }

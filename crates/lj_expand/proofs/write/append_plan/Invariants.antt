@@ -7,6 +7,7 @@ use Rattle.lj_expand.proofs.write.append_plan.Given as goal
 abbrev pub invariant-loop-done : goal.invariant-loop-done
 invariant-loop-done l = record {
   room : length l.batch ≡ 128;
+  lines : length l.lines ≡ 9600;
   upto : l.done ≤ l.cost;
   text : l.out.items ≡ l.fn.out.items ++ blocks_text (take l.done (expand (plan_tree l.plan)));
 }

@@ -30,8 +30,11 @@ slice_bounds-lower-end-else-size-le2 t c =
 
 pub mark_above-requires-clause-string : goal.mark_above-requires-clause-string
 mark_above-requires-clause-string t c =
-    subst (λ n. IsStringOf c.args.block.now (c.args.size - 1) (take n c.make_string.new.scratch))
-    (sym c.string_words-else-size-le2.ensures.value) c.make_string.ensures.string
+    let count = c.len-len.ensures.len in
+    subst (λ b. IsStringOf b (c.args.size - 1) (take c.string_words-else-size-le2.result c.make_string.new.scratch))
+    (sym (take_all c.len-len.result c.args.block.now (omega (arith, count))))
+    (subst (λ n. IsStringOf c.args.block.now (c.args.size - 1) (take n c.make_string.new.scratch))
+    (sym c.string_words-else-size-le2.ensures.value) c.make_string.ensures.string)
 
 pub returns-then-size-le2-clause-string : goal.returns-then-size-le2-clause-string
 returns-then-size-le2-clause-string t c =
@@ -46,9 +49,9 @@ pub returns-else-size-le2-clause-string : goal.returns-else-size-le2-clause-stri
 returns-else-size-le2-clause-string t c =
     let zeros = c.fill.new.self in
     let long = c.fill.ensures.len in
-    let count = c.len.ensures.len in
+    let count = c.len-len.ensures.len in
     string_first c.args.block.now zeros _ _ c.args.v c.args.size c.requires.below
     (λ i inside. c.fill.ensures.clones i 0 (omega (arith, inside, long)) refl)
     (c.fill.ensures.len ∙ c.split_at_mut-string.ensures.front_len ∙ c.string_words.ensures.value)
     (subst (λ b. Marks 0 zeros c.mark_above.new.words (IsRankAmong b c.args.size 0))
-    (take_all c.len.result c.args.block.now (omega (arith, count))) c.mark_above.ensures)
+    (take_all c.len-len.result c.args.block.now (omega (arith, count))) c.mark_above.ensures)

@@ -1,10 +1,9 @@
 use Rattle.std.proofs.Common.{◌≡◌, ◌+◌, ◌-◌, ◌<◌, inl, inr, length, arith, sym, subst, take, ap}
 use Rattle.lj_base.specs.Colex.{choose}
-use Rattle.lj_base.specs.Blocks.{Has}
-use Rattle.lj_base.proofs.Ascending.{Ascends-get_or_below, Has-at}
+use Rattle.lj_base.proofs.Ascending.{Ascends-get_or_below}
 use Rattle.lj_verify.specs.Marks.{IsAtPrefix, IsRankAmong, Marks}
 use Rattle.lj_verify.proofs.Runs.{marks_few, marks_more, marks_outside}
-use Rattle.lj_verify.proofs.Prefixes.{marks_prefix}
+use Rattle.lj_verify.proofs.Prefixes.{first_room, marks_first}
 use Rattle.lj_verify.proofs.strings.mark_prefixes.Goals as goal
 use Rattle.lj_verify.proofs.strings.mark_prefixes.Goals.{then-least-high+then-low-least, else-least-high}
 use Rattle.lj_verify.proofs.strings.mark_prefixes.Goals.{else-least-high-via-then-least-high+else-low-least}
@@ -28,10 +27,13 @@ binom-requires-then-low-least-clause-few_points c =
 
 pub mark_prefix-requires-clause-room : goal.mark_prefix-requires-clause-room
 mark_prefix-requires-clause-room c =
-    let has = subst (Has c.args.block.now) (sym c.at-point.ensures)
-    (Has-at c.args.block.now c.loop-i.i (omega arith)) in
     let value = c.binom-then-low-least.ensures.value in
-    omega (arith, value, c.requires.string.room c.at-point.result has)
+    omega (
+      arith,
+      value,
+      first_room c.args.block.now c.args.string.now c.loop-i.i c.args.m c.at-point.result c.args.size
+          (omega arith) c.requires.first c.at-point.ensures c.requires.string,
+    )
 
 pub loop-i-preserved : goal.loop-i-preserved
 loop-i-preserved c =
@@ -45,7 +47,6 @@ loop-i-preserved c =
     let within : i < length b = omega arith in
     let least = c.binom.ensures.value in
     let long = c.loop-i.auto.words in
-    let has = subst (Has b) (sym c.at-point.ensures) (Has-at b i within) in
     let same : s ≡ s + 1 - 1 = omega arith in
     let turn = ap (choose v) same in
     let more = λ (new : _) (run : Marks start old new (IsRankAmong (take i b) (s + 1 - 1) (rest + choose v (s + 1)))).
@@ -60,8 +61,8 @@ loop-i-preserved c =
           subst (λ new. Marks start c.args.words.now new (IsRankAmong (take (i + 1) b) (s + 1) rest)) (sym w.words-is)
           (more w.mark_prefix.new.words (subst
           (λ n. Marks start old w.mark_prefix.new.words (IsRankAmong (take i b) n (rest + choose v (s + 1)))) same
-          (marks_prefix c.set_laws.ensures start old w.mark_prefix.new.words b c.args.string.now i v s
-          (rest + choose v (s + 1)) c.requires.ascends within c.at-point.ensures has c.requires.string
+          (marks_first c.set_laws.ensures start old w.mark_prefix.new.words b c.args.string.now i c.args.m v s
+          (rest + choose v (s + 1)) c.requires.ascends (omega arith) c.requires.first c.at-point.ensures c.requires.string
           (subst (λ n. Marks start old w.mark_prefix.new.words (IsAtPrefix (rest + n) c.args.string.now (choose v s)))
           least
           (subst (λ n. Marks start old w.mark_prefix.new.words
