@@ -33,5 +33,6 @@ for each in 10 4000; do
     valgrind --tool=callgrind --callgrind-out-file="$work/profile" "$ljcr" serve --workers 4 < "$work/script" \
         > "$work/output" 2> "$work/errors"
     replies=$(grep -c '^bound' "$work/output")
-    echo "$replies replies to bound, $(calls 'Mutex::lock') lock sections, of them $(calls 'Shared::publish') publications"
+    echo "$replies replies to bound, $(calls 'Mutex::lock') lock sections," \
+        "of them $(calls 'Shared::publish') publications"
 done

@@ -1,6 +1,6 @@
 //! Brings a frame's table to rest: without workers by `settle`, on one thread; else by one, two or four workers over a
-//! shared table. Its words are V K T WORKERS and what is written: `sum` is the sum of the bounds; `time` is the number of
-//! the workers' turns, and how many nanoseconds passed; `held` says of one worker's turns, on a table that is not
+//! shared table. Its words are V K T WORKERS and what is written: `sum` is the sum of the bounds; `time` is the number
+//! of the workers' turns, and how many nanoseconds passed; `held` says of one worker's turns, on a table that is not
 //! shared, how long the claims took, how long the publications, and how long all, in nanoseconds.
 #![tactic(auto)]
 
