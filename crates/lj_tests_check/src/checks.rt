@@ -342,3 +342,30 @@ fn two_blocks_leave_a_set_of_a_large_cell_uncovered(rt: HostRuntime) -> Result<(
     }
     Ok(())
 }
+
+const THREE_BLOCKS: &[u8] = b"1 2 3 4 5 6 7 8 9 10 11 12 15 16 17 18 19 20 21 22 23 24 25 26 27
+1 2 3 4 5 6 7 8 9 10 13 14 28 29 30 31 32 33 34 35 36 37 38 39 40
+1 2 3 4 5 6 9 10 11 12 13 14 16 18 20 22 24 26 28 30 32 34 36 41 42
+";
+
+const FIVE_BLOCKS: &[u8] = b"1 2 4 5 6 8 9 10 11 12 13 14 15 16 17 18 19 20 21 22 23 24 25 30 41
+1 2 4 5 6 7 8 10 11 13 14 15 16 17 18 19 20 21 22 23 24 25 28 33 36
+2 3 4 5 6 7 8 9 10 11 12 13 14 15 16 17 18 19 20 21 22 23 24 25 26
+1 2 3 4 5 6 7 8 9 10 11 12 13 14 15 16 17 30 31 32 33 34 35 36 37
+1 2 3 4 5 6 7 8 9 11 13 15 17 19 21 23 25 27 29 31 33 35 37 39 41
+";
+
+// The plain check ends at sets of few points, before most of the 118,030,185 sets.
+#[test]
+fn both_checks_name_the_same_set_of_a_large_cell(rt: HostRuntime) -> Result<(), Fail> {
+    let alloc = rt.alloc();
+    let cell = Cell { v: 42, k: 25, t: 8 };
+    for (lines, points) in [
+        (THREE_BLOCKS, [0, 1, 2, 3, 4, 6, 10, 12]),
+        (FIVE_BLOCKS, [0, 1, 2, 3, 4, 5, 6, 17]),
+    ] {
+        let set = set_of(&points);
+        assert!(rt; both_of(&rt, alloc, cell, lines)? == Some(Refusal::Uncovered { set }));
+    }
+    Ok(())
+}
