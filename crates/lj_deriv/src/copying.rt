@@ -14,6 +14,7 @@ use crate::renumbering::renumbered;
 use crate::rules::Rule;
 use lj_base::Memory;
 use lj_cover::laws::sizes_of_cuts;
+use lj_upload::Accepted;
 use std::alloc::Global;
 
 // A copy in the making: what is copied, and the new number of each upload.
@@ -24,8 +25,8 @@ struct Copying {
 }
 
 /// Copies the nodes that the root reaches, in order, and the uploads that they name, in order. Besides these it takes
-/// memory for one mark for each node up to the root, and for a mark and a number for each upload. A child's new number
-/// is found by halving.
+/// memory for one mark for each node up to the root, and for two marks and a number for each upload. A child's new
+/// number is found by halving. An upload is copied without its table of counts where no induced node names it.
 pub fn copy_reached(arena: &Arena, alloc: Global, root: u64) -> Result<Arena, Memory>
     requires there { root < length arena.now.rules }
     requires few { length arena.now.rules ≤ MAX_NODES }
@@ -34,7 +35,8 @@ pub fn copy_reached(arena: &Arena, alloc: Global, root: u64) -> Result<Arena, Me
 {
     let numbers = reached(arena, alloc, root)?;
     let named = uploads_named(arena, alloc, &numbers, root)?;
-    let mut copying = copied_uploads(arena, alloc, &named)?;
+    let counted = uploads_counted(arena, alloc, &numbers, root)?;
+    let mut copying = copied_uploads(arena, alloc, &named, &counted)?;
     copying.plan.reserve(numbers.len() as u64)?;
     for _node in 0..numbers.len() {
         copying.push_next(arena, &numbers, &named, root);
@@ -45,9 +47,15 @@ pub fn copy_reached(arena: &Arena, alloc: Global, root: u64) -> Result<Arena, Me
     Ok(plan)
 }
 
-// Copies these uploads, in order.
-fn copied_uploads(arena: &Arena, alloc: Global, named: &[u64]) -> Result<Copying, Memory>
-    requires { Ascends 0 (length arena.now.uploads) named.now }
+// Copies these uploads, in order, with their counts where that is marked.
+fn copied_uploads(
+    arena: &Arena,
+    alloc: Global,
+    named: &[u64],
+    counted: &[bool],
+) -> Result<Copying, Memory>
+    requires named { Ascends 0 (length arena.now.uploads) named.now }
+    requires marks { length counted.now ≡ length arena.now.uploads }
     ensures uploads { IfOk result (λ c. HasUploads arena.now named.now c.uploads.items c.plan) }
     ensures all { IfOk result (λ c. length c.plan.uploads ≡ length named.now) }
     ensures no_nodes { IfOk result (λ c. c.plan.rules ≡ []) }
@@ -57,7 +65,8 @@ fn copied_uploads(arena: &Arena, alloc: Global, named: &[u64]) -> Result<Copying
         uploads: vec![in alloc; 0; arena.uploads().len()]?,
     };
     for u in named {
-        copying.push_upload(arena, alloc, *u, named)?;
+        let is_counted = counted[*u as usize];
+        copying.push_upload(arena, alloc, *u, named, is_counted)?;
     }
     Ok(copying)
 }
@@ -70,6 +79,7 @@ impl Copying {
         alloc: Global,
         u: u64,
         named: &[u64],
+        is_counted: bool,
     ) -> Result<(), Memory>
         requires ascends { Ascends 0 (length arena.now.uploads) named.now }
         requires more { length self.old.plan.uploads < length named.now }
@@ -81,7 +91,7 @@ impl Copying {
         ensures rules { OnOk result (self.new.plan.rules ≡ self.old.plan.rules) }
     {
         let held = arena.uploads();
-        let copy = held[u as usize].copy(alloc)?;
+        let copy = copy_of(&held[u as usize], alloc, is_counted)?;
         self.uploads[u as usize] = self.plan.push_upload(copy)?;
         Ok(())
     }
@@ -122,6 +132,17 @@ impl Copying {
             Some(u) => self.uploads[u as usize],
             None => 0,
         }
+    }
+}
+
+// A copy of the upload, with its counts or without them.
+fn copy_of(up: &Accepted, alloc: Global, is_counted: bool) -> Result<Accepted, Memory>
+    ensures { IfOk result (λ a. a ≡ up.now) }
+{
+    if is_counted {
+        up.copy(alloc)
+    } else {
+        up.copy_without_counts(alloc)
     }
 }
 
@@ -205,6 +226,26 @@ fn mark_upload(arena: &Arena, node: u64, marks: &mut Vec<bool>)
     if let Some(u) = arena.rule(node).upload() {
         marks[u as usize] = true;
     }
+}
+
+// Marks the uploads that an induced node of these names, whose counts are looked up for its cost.
+fn uploads_counted(
+    arena: &Arena,
+    alloc: Global,
+    numbers: &[u64],
+    root: u64,
+) -> Result<Vec<bool>, Memory>
+    requires reach { IsReach arena.now root numbers.now }
+    requires there { root < length arena.now.rules }
+    ensures { IfOk result (λ v. length v.items ≡ length arena.now.uploads) }
+{
+    let mut counted = vec![in alloc; false; arena.uploads().len()]?;
+    for node in numbers {
+        if let Rule::Induced { .. } = arena.rule(*node) {
+            mark_upload(arena, *node, &mut counted);
+        }
+    }
+    Ok(counted)
 }
 
 // The places that are marked, in order.

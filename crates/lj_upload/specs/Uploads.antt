@@ -19,8 +19,8 @@ pub record IsAccepted (u : Upload) : Type 0 where
 abbrev pub cut_table : ℕ → List (List ℕ) → List (List ℕ)
 cut_table v blocks = map (λ w. cut_counts w blocks) (range_with_len 0 (v + 1))
 
--- the summary is that of these blocks of points below v
+-- the summary is that of these blocks of points below v, with the table of cuts or without it
 pub record IsSummary (v : ℕ) (blocks : List (List ℕ)) (s : Summary) : Type 0 where
   pub least : IsLeastDegree v blocks s.least.0 s.least.1
   pub least_pair : MatchOption s.least_pair (v ≡ 1) (λ pair. IsLeastPair v blocks pair.0 pair.1 pair.2)
-  pub counts : s.counts.items ≡ cut_table v blocks
+  pub counts : MatchOption s.counts (Unit {0}) (λ table. table.items ≡ cut_table v blocks)

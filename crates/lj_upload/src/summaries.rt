@@ -1,4 +1,5 @@
 ghost use Rattle.std.specs.Prelude.{◌≡◌, ◌≤◌, IfOk, length};
+ghost use Rattle.std.specs.Option.{MatchOption};
 ghost use Rattle.lj_upload.specs.Uploads.{IsSummary};
 
 use crate::least::{least_pair, least_point};
@@ -15,8 +16,8 @@ pub(crate) struct Summary {
     /// The first pair of points with the fewest blocks through both, and how many those are. None where there is one
     /// point.
     pub(crate) least_pair: Option<(u8, u8, u64)>,
-    /// In row `w` at place `l`: how many blocks have `l` points below `w`.
-    pub(crate) counts: Vec<[u32; 26]>,
+    /// In row `w` at place `l`: how many blocks have `l` points below `w`. None in a copy that was made without it.
+    pub(crate) counts: Option<Vec<[u32; 26]>>,
 }
 
 impl Summary {
@@ -29,19 +30,25 @@ impl Summary {
         Ok(Summary {
             least: least_point(&pairs),
             least_pair: least_pair(&pairs),
-            counts,
+            counts: Some(counts),
         })
     }
 
-    pub(crate) fn copy(&self, alloc: Global) -> Result<Summary, Memory>
+    /// The same, with the table of counts where it is wanted and there.
+    pub(crate) fn copy(&self, alloc: Global, with_counts: bool) -> Result<Summary, Memory>
         ensures least { IfOk result (λ summary. summary.least ≡ self.now.least) }
         ensures least_pair { IfOk result (λ summary. summary.least_pair ≡ self.now.least_pair) }
-        ensures counts { IfOk result (λ summary. summary.counts.items ≡ self.now.counts.items) }
+        ensures counts { IfOk result (λ summary. MatchOption summary.counts (Unit {0})
+            (λ table. MatchOption self.now.counts ⊥ (λ own. table.items ≡ own.items))) }
     {
+        let counts = match &self.counts {
+            Some(table) if with_counts => Some(table.iter().copied().collect(alloc)?),
+            _ => None,
+        };
         Ok(Summary {
             least: self.least,
             least_pair: self.least_pair,
-            counts: self.counts.iter().copied().collect(alloc)?,
+            counts,
         })
     }
 }

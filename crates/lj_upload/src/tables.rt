@@ -1,12 +1,13 @@
 ghost use Rattle.std.specs.Prelude.{◌≡◌, ℕ, ◌+◌, ◌<◌, ◌≤◌, ◌&&◌, if◌then◌else◌, [], IfOk, length, replicate};
 ghost use Rattle.std.specs.Prelude.{slice_index, slice_index_or, take};
 ghost use Rattle.lj_base.specs.Blocks.{AllBelow};
+ghost use Rattle.lj_cover.specs.Instances.{cut_counts};
 ghost use Rattle.lj_cover.specs.Operations.{cut, has_point};
 ghost use Rattle.lj_upload.specs.Tables.{CountsPairs, entry, one_more_at, times};
 ghost use Rattle.lj_upload.specs.Uploads.{cut_table};
 
 use lj_base::{Block, MAX_BLOCKS, Memory};
-use lj_cover::Design;
+use lj_cover::{Design, cut_first};
 use std::alloc::Global;
 
 /// For each two points how many blocks hold both, in the row of the lesser one; with itself a point has its degree.
@@ -61,6 +62,27 @@ pub(crate) fn cut_table(alloc: Global, v: u8, blocks: &[Block]) -> Result<Vec<[u
         add_cuts(&mut table, block);
     }
     Ok(table)
+}
+
+/// One row of that table. Cost: a step for each block and each of its points.
+pub(crate) fn cut_row(w: u64, blocks: &[Block]) -> [u32; 26]
+    requires { length blocks.now ≤ MAX_BLOCKS }
+    ensures { result ≡ cut_counts w blocks.now }
+{
+    let mut row = [0; 26];
+    for block in blocks {
+        let below = points_below(block, w);
+        row[below as usize] += 1;
+    }
+    row
+}
+
+// How many of the block's points are below `w`.
+fn points_below(block: &Block, w: u64) -> u64
+    ensures count { result ≡ length (cut w block.now) }
+    ensures short { result ≤ 25 }
+{
+    cut_first(*block, w).len()
 }
 
 // Counts the block in each row, at the number of its points below the row's.

@@ -15,7 +15,7 @@ loop-node-init c =
     let named = c.in_ok-named.named.items in
     let places = c.in_ok-copying.copying.uploads.items in
     let count : vec_len numbers ≡ length numbers.items = numbers.ok.0 in
-    let h = subst (λ ns. HasUploads a ns places c.in_ok-copying.copying.plan) c.deref-2.ensures.value
+    let h = subst (λ ns. HasUploads a ns places c.in_ok-copying.copying.plan) c.deref-3.ensures.value
     c.in_ok-copying.ensures.uploads in
     record {
       len = ap length rules;
@@ -26,7 +26,7 @@ loop-node-init c =
             subst (λ (b : Nodes). HasUploads a named places b) (sym same)
             (record { frame = h.frame; len = h.len; few = h.few; copies = h.copies; places_kept = h.places_kept });
         all_uploads =
-            ap (λ (b : Nodes). length b.uploads) same ∙ c.in_ok-copying.ensures.all ∙ ap length c.deref-2.ensures.value;
+            ap (λ (b : Nodes). length b.uploads) same ∙ c.in_ok-copying.ensures.all ∙ ap length c.deref-3.ensures.value;
         copied =
             IsCopied-start a p numbers.items named rules (omega (arith, count, spare, c.len.ensures));
       };
