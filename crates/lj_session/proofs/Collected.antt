@@ -85,7 +85,7 @@ accepted_after f section us u all k = record {
   one = k;
 }
 
-contains_none : {X : Type 0} (x : X) → Contains {X = X} [] x → ⊥
+pub contains_none : {X : Type 0} (x : X) → Contains {X = X} [] x → ⊥
 contains_none x k = omega (arith, k.1)
 
 -- a member is the first or one of the others
@@ -239,7 +239,7 @@ count-cons (Plan c) cs = omega arith
 count-cons (Expand c) cs = omega arith
 count-cons Settle cs = omega arith
 
-count-append : (cs ds : List Command) → upload_count (cs ++ ds) ≡ upload_count cs + upload_count ds
+pub count-append : (cs ds : List Command) → upload_count (cs ++ ds) ≡ upload_count cs + upload_count ds
 count-append [] ds = omega arith
 count-append (c ∷ cs) ds =
     omega (arith, count-cons c (cs ++ ds), count-cons c cs, count-append cs ds)

@@ -5,3 +5,5 @@ pub mod Accepting
 pub mod Collected
 pub mod Serving
 pub mod Passing
+pub mod Searching
+pub mod PlanUploads

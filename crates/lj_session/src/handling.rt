@@ -87,7 +87,7 @@ fn judge_file<R: Threads + Sync>(
 }
 
 // The bytes from a place on.
-fn rest_of(bytes: &[u8], place: u64) -> &[u8]
+pub(crate) fn rest_of(bytes: &[u8], place: u64) -> &[u8]
     requires { place ≤ length bytes.now }
     ensures { result.now ≡ drop place bytes.now }
 {

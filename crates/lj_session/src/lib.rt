@@ -6,6 +6,7 @@ mod ends;
 mod handling;
 mod laws;
 mod limits;
+mod offering;
 mod offers;
 mod outcomes;
 mod own;
@@ -20,5 +21,6 @@ pub use laws::{
     accepted_law, ask_law, building_law, limits_law, one_outcome_law, passing_law, serving_law,
 };
 pub use limits::MAX_WRITTEN;
+pub use offering::offered;
 pub use reasons::Reason;
 pub use sessions::Session;
