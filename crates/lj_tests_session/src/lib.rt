@@ -6,4 +6,6 @@ mod driven;
 #[cfg(test)]
 mod expands;
 #[cfg(test)]
+mod offers;
+#[cfg(test)]
 mod uploads;
