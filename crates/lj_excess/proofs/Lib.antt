@@ -4,3 +4,4 @@ pub mod AmongPoints
 pub mod ChangedCounts
 pub mod DoubleCounting
 pub mod BlockTallies
+pub mod Verdicts

@@ -1,6 +1,6 @@
-ghost use Rattle.std.specs.Prelude.{◌≡◌, ◌↔◌, ℕ, ◌-◌, ◌<◌, ◌≤◌, ◌^◌, IfErr, IfOk, IsTrue, List, [], ◌∷◌, ◌++◌, length};
-ghost use Rattle.std.specs.Prelude.{replicate, slice_index};
-ghost use Rattle.lj_base.specs.Blocks.{IsBlock};
+ghost use Rattle.std.specs.Prelude.{◌≡◌, ◌↔◌, ℕ, ◌-◌, ◌<◌, ◌≤◌, ◌^◌, IfErr, IfNone, IfOk, IfSome, IsTrue, List, []};
+ghost use Rattle.std.specs.Prelude.{◌∷◌, ◌++◌, length, replicate, slice_index};
+ghost use Rattle.lj_base.specs.Blocks.{AreBlocks, IsBlock};
 ghost use Rattle.lj_base.specs.Cells.{IsCell};
 ghost use Rattle.lj_base.specs.Colex.{choose};
 ghost use Rattle.lj_excess.specs.Failures.{IsCountFail};
@@ -63,10 +63,20 @@ impl Counts {
         ensures failed { IfErr result (IsCountFail d.now.cell) }
     {
         let mut counts = Counts::none(alloc, d.cell())?;
-        for block in d.blocks() {
-            counts.add(block);
-        }
+        counts.add_all(d.blocks());
         Ok(counts)
+    }
+
+    // Adds the blocks of a list to the counts of no blocks.
+    pub(crate) fn add_all(&mut self, blocks: &[Block])
+        requires none { self.old ≡ tally_of [] self.old.cell }
+        requires blocks { AreBlocks self.old.cell.v self.old.cell.k blocks.now }
+        requires few { length blocks.now < 2 ^ 32 }
+        ensures { self.new ≡ tally_of blocks.now self.old.cell }
+    {
+        for block in blocks {
+            self.add(block);
+        }
     }
 
     /// Adds a block after the others. The counts are kept in 32 bits.
@@ -137,6 +147,21 @@ impl Counts {
         ensures { result ≡ slice_index self.now.counts r }
     {
         self.counts[r as usize]
+    }
+
+    /// The least rank of a set that is in no block.
+    pub fn first_uncovered(&self) -> Option<u64>
+        ensures none { IfNone result ((r : ℕ) → r < length self.now.counts → 1 ≤ slice_index self.now.counts r) }
+        ensures inside { IfSome result (λ r. r < length self.now.counts) }
+        ensures zero { IfSome result (λ r. slice_index self.now.counts r ≡ 0) }
+        ensures first { IfSome result (λ r. (q : ℕ) → q < r → 1 ≤ slice_index self.now.counts q) }
+    {
+        for r in 0..self.counts.len() {
+            if self.counts[r] == 0 {
+                return Some(r as u64);
+            }
+        }
+        None
     }
 
     /// How many sets are in just one block.
