@@ -13,4 +13,4 @@ pub use covering::greedy;
 pub use failures::GreedyFail;
 pub use laws::{greedy_law, reduced_law};
 pub use limits::MAX_GREEDY_SETS;
-pub use reducing::reduce;
+pub use reducing::{reduce, reduce_counted};

@@ -28,9 +28,24 @@ pub fn reduce(alloc: Global, d: Design) -> Result<Design, CountFail>
 {
     reduced_law();
     let counts = Counts::of(alloc, &d)?;
-    let Ok(mut kept) = needed_blocks(alloc, counts, d.blocks()) else {
+    let Ok(design) = reduce_counted(alloc, d, counts) else {
         return Err(CountFail::Memory);
     };
+    Ok(design)
+}
+
+/// A design without its spare blocks, as `reduce` makes it, where its blocks have been counted.
+pub fn reduce_counted(alloc: Global, d: Design, counts: Counts) -> Result<Design, Memory>
+    requires counted { counts ≡ tally_of d.blocks d.cell }
+    requires few { length d.blocks < 2 ^ 32 }
+    ensures ok { IfOk result (λ r. r ≡ record { cell = d.cell; blocks = reduced d.cell d.blocks }) }
+    ensures covers { IfOk result (λ r. Covers r.blocks d.cell) }
+    ensures needed { IfOk result (λ r. (i : ℕ) → i < length r.blocks → Covers (remove r.blocks i) d.cell → ⊥) }
+    ensures sublist { IfOk result (λ r. IsSublist r.blocks d.blocks) }
+    ensures shorter { IfOk result (λ r. length r.blocks ≤ length d.blocks) }
+{
+    reduced_law();
+    let mut kept = needed_blocks(alloc, counts, d.blocks())?;
     kept.reverse();
     Ok(Design::of(d.cell(), kept))
 }
