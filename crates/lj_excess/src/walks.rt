@@ -47,14 +47,36 @@ fn shift_among(counts: &mut [u32], block: &Block, n: u64, t: u64, rest: u64, ste
     if t == 2 {
         return shift_pairs(counts, block, n, rest, step);
     }
+    if t == 3 {
+        return shift_triples(counts, block, n, rest, step);
+    }
     for i in t - 1..n {
         let least = rest + binom(block.at(i) as u64, t);
         shift_among(counts, block, i, t - 1, least, step);
     }
 }
 
+// Adds to the counts of the triples among the block's first `n` points.
+fn shift_triples(counts: &mut [u32], block: &Block, n: u64, rest: u64, step: u32)
+    requires enough { 2 ≤ n }
+    requires within { n ≤ length block.now }
+    requires ascends { Ascends 0 99 block.now }
+    requires few { length counts.old ≤ MAX_COUNTS }
+    requires room { (i : ℕ) → i < n → rest + choose (slice_index block.now i + 1) 3 ≤ length counts.old }
+    ensures { Changed (shifted step) counts.old counts.new (IsRankAmong (take n block.now) 3 rest) }
+{
+    set_laws();
+    choose_law();
+    for i in 2..n {
+        let least = rest + binom(block.at(i) as u64, 3);
+        shift_pairs(counts, block, i, least, step);
+    }
+}
+
 // Adds to the counts of the pairs among the block's first `n` points.
+#[inline(always)]
 fn shift_pairs(counts: &mut [u32], block: &Block, n: u64, rest: u64, step: u32)
+    requires some { 1 ≤ n }
     requires within { n ≤ length block.now }
     requires ascends { Ascends 0 99 block.now }
     requires few { length counts.old ≤ MAX_COUNTS }
@@ -63,7 +85,7 @@ fn shift_pairs(counts: &mut [u32], block: &Block, n: u64, rest: u64, step: u32)
 {
     set_laws();
     choose_law();
-    for i in 0..n {
+    for i in 1..n {
         let least = rest + binom(block.at(i) as u64, 2);
         shift_points(counts, block, i, least, step);
     }
@@ -115,7 +137,7 @@ pub(crate) fn each_twice(counts: &[u32], block: &Block, t: u64) -> bool
 
 // Whether that holds of the sets of `t` points among the block's first `n`, where `rest` is added to each rank.
 fn among_twice(counts: &[u32], block: &Block, n: u64, t: u64, rest: u64) -> bool
-    requires some { 1 ≤ t }
+    requires some { 2 ≤ t }
     requires small { t ≤ 8 }
     requires enough { t ≤ n }
     requires within { n ≤ length block.now }
@@ -127,12 +149,58 @@ fn among_twice(counts: &[u32], block: &Block, n: u64, t: u64, rest: u64) -> bool
 {
     set_laws();
     choose_law();
-    if t == 1 {
-        return points_twice(counts, block, n, rest);
+    if t == 2 {
+        return pairs_twice(counts, block, n, rest);
+    }
+    if t == 3 {
+        return triples_twice(counts, block, n, rest);
     }
     for i in t - 1..n {
         let least = rest + binom(block.at(i) as u64, t);
         if !among_twice(counts, block, i, t - 1, least) {
+            return false;
+        }
+    }
+    true
+}
+
+// Whether that holds of the triples among the block's first `n` points.
+fn triples_twice(counts: &[u32], block: &Block, n: u64, rest: u64) -> bool
+    requires enough { 2 ≤ n }
+    requires within { n ≤ length block.now }
+    requires ascends { Ascends 0 99 block.now }
+    requires few { length counts.now ≤ MAX_COUNTS }
+    requires room { (i : ℕ) → i < n → rest + choose (slice_index block.now i + 1) 3 ≤ length counts.now }
+    ensures { IsTrue result ↔
+        ((r : ℕ) → IsRankAmong (take n block.now) 3 rest r → 2 ≤ slice_index counts.now r) }
+{
+    set_laws();
+    choose_law();
+    for i in 2..n {
+        let least = rest + binom(block.at(i) as u64, 3);
+        if !pairs_twice(counts, block, i, least) {
+            return false;
+        }
+    }
+    true
+}
+
+// Whether that holds of the pairs among the block's first `n` points.
+#[inline(always)]
+fn pairs_twice(counts: &[u32], block: &Block, n: u64, rest: u64) -> bool
+    requires some { 1 ≤ n }
+    requires within { n ≤ length block.now }
+    requires ascends { Ascends 0 99 block.now }
+    requires few { length counts.now ≤ MAX_COUNTS }
+    requires room { (i : ℕ) → i < n → rest + choose (slice_index block.now i + 1) 2 ≤ length counts.now }
+    ensures { IsTrue result ↔
+        ((r : ℕ) → IsRankAmong (take n block.now) 2 rest r → 2 ≤ slice_index counts.now r) }
+{
+    set_laws();
+    choose_law();
+    for i in 1..n {
+        let least = rest + binom(block.at(i) as u64, 2);
+        if !points_twice(counts, block, i, least) {
             return false;
         }
     }

@@ -9,7 +9,7 @@ use Rattle.lj_excess.proofs.walks.shift_pairs.Goals as goal
 
 pub loop-i-init : goal.loop-i-init
 loop-i-init c =
-    changed_few c.set_laws.ensures (shifted c.args.step) c.args.counts.now c.args.block.now 0 2 c.args.rest
+    changed_few c.set_laws.ensures (shifted c.args.step) c.args.counts.now c.args.block.now 1 2 c.args.rest
     c.requires.ascends (omega arith) (omega arith)
 
 pub binom-requires-clause-few_points : goal.binom-requires-clause-few_points
@@ -34,7 +34,6 @@ loop-i-preserved c =
     let rest = c.args.rest in
     let within : i < length b = omega arith in
     changed_more c.set_laws.ensures (shifted c.args.step) c.args.counts.now c.loop-i.counts c.shift_points.new.counts
-    b i
-    2 rest v c.requires.ascends within c.at.ensures (omega arith) c.loop-i.invariant
+    b i 2 rest v c.requires.ascends within c.at.ensures (omega arith) c.loop-i.invariant
     (subst (λ n. Changed (shifted c.args.step) c.loop-i.counts c.shift_points.new.counts
     (IsRankAmong (take i b) 1 (rest + n))) c.binom.ensures.value c.shift_points.ensures)
