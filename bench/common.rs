@@ -69,7 +69,8 @@ fn first_clear(words: &[u64], len: u64) -> Option<u64> {
     (rank < len).then_some(rank)
 }
 
-fn unrank(table: &Binomials, size: usize, mut rank: u64) -> Vec<usize> {
+/// The set of a rank, its points numbered from 1.
+pub fn unrank(table: &Binomials, size: usize, mut rank: u64) -> Vec<usize> {
     let mut points = Vec::new();
     for size in (1..=size).rev() {
         let point = (0..POINTS).rev().find(|point| table[size][*point] <= rank).unwrap_or(0);

@@ -1,5 +1,5 @@
 //! Counts of a covering, the blocks that remain without spare ones, and the greedy covering, written by hand without
-//! proofs. They are what the proved program is measured against. The blocks that are given have to cover.
+//! proofs. They are what the proved program is measured against. Blocks that do not cover are refused by their counts.
 //!
 //!     coverings excess V K T < blocks     prints the seven lines of `ljcr excess`
 //!     coverings reduce V K T < blocks     prints the file of `ljcr reduce`
@@ -10,7 +10,7 @@ use std::io::{self, BufWriter, Read, Write};
 use std::process::ExitCode;
 
 mod common;
-use common::{Binomials, Block, binomials, parse};
+use common::{Binomials, Block, binomials, parse, unrank};
 
 struct Counts {
     table: Binomials,
@@ -90,16 +90,31 @@ fn read_blocks(k: usize) -> io::Result<Vec<Block>> {
     Ok(parse(&text, k))
 }
 
+// The counts of blocks that cover; else the first set that no block contains is printed.
+fn counted(blocks: &[Block], v: usize, t: usize) -> Option<Counts> {
+    let mut counts = Counts::new(v, t);
+    for block in blocks {
+        counts.shift_block(block.points(), t, 1);
+    }
+    match counts.counts.iter().position(|count| *count == 0) {
+        None => Some(counts),
+        Some(rank) => {
+            let points: Vec<String> = unrank(&counts.table, t, rank as u64).iter().map(usize::to_string).collect();
+            println!("uncovered {}", points.join(" "));
+            None
+        }
+    }
+}
+
 fn schonheim(v: u64, k: u64, t: u64) -> u64 {
     if t == 0 { 1 } else { (v * schonheim(v - 1, k - 1, t - 1)).div_ceil(k) }
 }
 
 fn excess(v: usize, k: usize, t: usize) -> io::Result<()> {
     let blocks = read_blocks(k)?;
-    let mut counts = Counts::new(v, t);
-    for block in &blocks {
-        counts.shift_block(block.points(), t, 1);
-    }
+    let Some(counts) = counted(&blocks, v, t) else {
+        return Ok(());
+    };
     let sums = &counts.counts;
     println!("blocks {}", blocks.len());
     println!("schonheim {}", schonheim(v as u64, k as u64, t as u64));
@@ -142,10 +157,9 @@ fn print_file(v: usize, k: usize, t: usize, blocks: &[Block]) -> io::Result<()> 
 
 fn reduce(v: usize, k: usize, t: usize) -> io::Result<()> {
     let blocks = read_blocks(k)?;
-    let mut counts = Counts::new(v, t);
-    for block in &blocks {
-        counts.shift_block(block.points(), t, 1);
-    }
+    let Some(mut counts) = counted(&blocks, v, t) else {
+        return Ok(());
+    };
     print_file(v, k, t, &reduced(&mut counts, blocks, t))
 }
 

@@ -1,7 +1,7 @@
 #!/bin/sh
 # Measures `excess`, `reduce` and `greedy` of the built program against `coverings.rs`, written by hand. It prints the
-# best and the median wall time of ten runs each, taken in turn, the ratios, and the peak memory. The program checks
-# that the blocks cover before it counts them, and the one by hand does not. It needs rustc and GNU time.
+# best and the median wall time of ten runs each, taken in turn, the ratios, and the peak memory. Both refuse blocks
+# that do not cover. It needs rustc and GNU time.
 # usage: coverings.sh LJCR
 set -eu
 ljcr=$1
