@@ -9,8 +9,8 @@ use lj_verify::check_plain;
 use std::alloc::Global;
 use std::test::Fail;
 
-// The blocks of the lines.
-fn read(alloc: Global, cell: Cell, lines: &[u8]) -> Result<Vec<Block>, Fail>
+/// The blocks of the lines.
+pub fn read(alloc: Global, cell: Cell, lines: &[u8]) -> Result<Vec<Block>, Fail>
     requires { 1 ≤ cell.k }
     ensures { IfOk result (λ blocks. AreBlocks cell.v cell.k blocks.items) }
 {
