@@ -89,15 +89,15 @@ impl Accepted {
         &self.design
     }
 
-    /// The same upload, with the summary copied too. Cost: a step for each block, and one for each point of the cell.
+    /// A copy, its summary included. Cost: a step for each block, and one for each point of the cell.
     pub fn copy(&self, alloc: Global) -> Result<Accepted, Memory>
         ensures { IfOk result (λ a. a ≡ self.now) }
     {
         self.copy_for(alloc, true)
     }
 
-    /// The same upload, without the table of counts: for a place where `counts` is called seldom or never. Cost: a step
-    /// for each block. It saves the table's rows, 104 bytes for each `w` from 0 to the cell's `v`; `counts` of the copy
+    /// A copy without the table of counts, for a place where `counts` is called seldom or never. Cost: a step for each
+    /// block. It saves the table's rows, 104 bytes for each `w` from 0 to the cell's `v`; `counts` of the copy
     /// goes through the blocks.
     pub fn copy_without_counts(&self, alloc: Global) -> Result<Accepted, Memory>
         ensures { IfOk result (λ a. a ≡ self.now) }

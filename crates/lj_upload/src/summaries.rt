@@ -34,7 +34,7 @@ impl Summary {
         })
     }
 
-    /// The same, with the table of counts where it is wanted and there.
+    /// A copy, with the table of counts where it is wanted and there.
     pub(crate) fn copy(&self, alloc: Global, with_counts: bool) -> Result<Summary, Memory>
         ensures least { IfOk result (λ summary. summary.least ≡ self.now.least) }
         ensures least_pair { IfOk result (λ summary. summary.least_pair ≡ self.now.least_pair) }
