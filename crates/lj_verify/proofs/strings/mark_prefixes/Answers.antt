@@ -64,7 +64,7 @@ loop-i-preserved c =
           (marks_first c.set_laws.ensures start old w.mark_prefix.new.words b c.args.string.now i c.args.m v s
           (rest + choose v (s + 1)) c.requires.ascends (omega arith) c.requires.first c.at-point.ensures c.requires.string
           (subst (λ n. Marks start old w.mark_prefix.new.words
-            (IsAtPrefix (rest + n) c.args.string.now (choose v s)))
+          (IsAtPrefix (rest + n) c.args.string.now (choose v s)))
           least
           (subst (λ n. Marks start old w.mark_prefix.new.words
           (IsAtPrefix (rest + c.binom.result) c.args.string.now n)) w.binom-then-low-least.ensures.value
