@@ -23,9 +23,9 @@ fn a_client_is_served(rt: HostRuntime) -> Result<(), Fail> {
     Ok(())
 }
 
-// After a settle a plan costs what the report says.
+// After a settle a plan costs the least, as the report has it.
 #[test]
-fn a_plan_is_shown(rt: HostRuntime) -> Result<(), Fail> {
+fn a_plan_costs_the_least_after_a_settle(rt: HostRuntime) -> Result<(), Fail> {
     let parts = [FRAME, "client ann\n", FOUR, "settle\nplan 6 3 2\n"];
     let done = served(&rt, rt.alloc(), &parts, 4)?;
     let ends = done.ends.items();
@@ -33,6 +33,7 @@ fn a_plan_is_shown(rt: HostRuntime) -> Result<(), Fail> {
     let replies = ends[0].replies.items();
     assert!(rt; replies.starts_with(b"accepted 1 4\nsettled\nplan 6 3 2 7\n"));
     assert!(rt; replies.ends_with(b"\nend\n"));
+    assert_eq!(rt; bounds(&done.closed.table), [3, 4, 7, 9]);
     Ok(())
 }
 
