@@ -47,51 +47,58 @@ fn end_of<R: Threads + Sync>(
 ) -> Result<SessionEnd, Fail>
     requires { session.ask ≡ Ask.Done }
 {
-    let asked = drive(rt, alloc, arena, &mut session)?;
-    if !are_numbered(session.own(), asked) {
+    let mut asked = Vec::new(alloc);
+    drive(rt, alloc, arena, &mut session, &mut asked)?;
+    if !are_those(session.own(), &asked) {
         return Err("other uploads".into());
     }
     let end = session.finish();
-    if !are_numbered(end.accepted.items(), asked) {
+    if !are_those(end.accepted.items(), &asked) {
         return Err("other uploads at the end".into());
     }
     Ok(end)
 }
 
-// Whether there are as many uploads, whose ordinals count from 1.
-fn are_numbered(uploads: &[Accepted], count: u64) -> bool {
+// Whether these are the uploads that were asked about, in order, and their ordinals count from 1.
+fn are_those(uploads: &[Accepted], asked: &[Accepted]) -> bool {
     let mut next = 1;
-    for upload in uploads {
-        if upload.ordinal() != next {
+    for (upload, other) in uploads.iter().zip(asked) {
+        if upload.ordinal() != next || !upload.same(other) {
             return false;
         }
         next = next.saturating_add(1);
     }
-    uploads.len() as u64 == count
+    uploads.len() == asked.len()
 }
 
-// Gives a session what it asks for, up to its end, and returns how many uploads it asked about.
+// Gives a session what it asks for, up to its end, and keeps the uploads that it asks about.
 fn drive<R: Threads + Sync>(
     rt: &R,
     alloc: Global,
     arena: &Arena,
     session: &mut Session,
-) -> Result<u64, Fail>
+    asked: &mut Vec<Accepted>,
+) -> Result<(), Fail>
     requires { session.old.ask ≡ Ask.Done }
     ensures { OnOk result (session.new.left ≡ []) }
 {
-    let mut asked: u64 = 0;
     for _ in 0..MAX_COMMANDS + 1 {
         match session.step(rt, alloc)? {
-            Ask::Done => return Ok(asked),
-            ask => asked = asked.saturating_add(give(alloc, arena, session, ask)?),
+            Ask::Done => return Ok(()),
+            ask => give(alloc, arena, session, ask, asked)?,
         }
     }
     Err("more asks than commands".into())
 }
 
-// Gives a session what it asks for, and returns how many uploads that is.
-fn give(alloc: Global, arena: &Arena, session: &mut Session, ask: Ask) -> Result<u64, Fail>
+// Gives a session what it asks for, and keeps the upload that it asks about.
+fn give(
+    alloc: Global,
+    arena: &Arena,
+    session: &mut Session,
+    ask: Ask,
+    asked: &mut Vec<Accepted>,
+) -> Result<(), Fail>
     requires waits { session.old.ask ≡ ask }
     requires next { IsNext session.old ask }
     requires goes_on { ask ≢ Ask.Done }
@@ -99,25 +106,19 @@ fn give(alloc: Global, arena: &Arena, session: &mut Session, ask: Ask) -> Result
 {
     passing_law();
     match ask {
-        Ask::Accept { .. } => {
+        Ask::Accept { up } => {
             session.told_accept()?;
-            Ok(1)
+            asked.push(up)?;
         }
-        Ask::Bound { .. } => {
-            session.told_bound(2)?;
-            Ok(0)
-        }
+        Ask::Bound { .. } => session.told_bound(2)?,
         Ask::Plan { cell } => {
             let plan = plan_for(alloc, arena, cell)?;
             session.told_plan(alloc, plan)?;
-            Ok(0)
         }
-        Ask::Settle => {
-            session.told_settle()?;
-            Ok(0)
-        }
+        Ask::Settle => session.told_settle()?,
         Ask::Done => unreachable!(),
     }
+    Ok(())
 }
 
 // The plan of the first node of this cell.
