@@ -5,7 +5,7 @@ use Rattle.std.proofs.lemmas.Option.{IfSome_then}
 use Rattle.std.specs.List.{Contains}
 use Rattle.lj_base.specs.Cells.{IsCell}
 use Rattle.lj_base.specs.Frames.{Top}
-use Rattle.lj_base.specs.Streams.{Appends, Rose}
+use Rattle.lj_base.specs.Streams.{Appends, IsAtEnd, Rose}
 use Rattle.lj_base.specs.declared.limits.TheConstants.{MAX_INPUT}
 use Rattle.lj_build.specs.Runs.{AreBuilt, IsBuildOutput, IsReport, sections_text, uploads_of}
 use Rattle.lj_cover.specs.Rules.{Upload}
@@ -15,6 +15,7 @@ use Rattle.lj_script.specs.Values.{ScriptValue, SectionValue}
 use Rattle.lj_script.specs.declared.faults.ScriptFault.{ScriptFault}
 use Rattle.lj_session.specs.AcceptedUploads.{AreAcceptedOfAll, IsAcceptedIn}
 use Rattle.lj_session.specs.declared.ends.SessionEnd.{SessionEnd}
+use Rattle.lj_text.specs.Inputs.{HasRead}
 use Rattle.lj_cli.specs.BuildOutput.{IsBuildCommandOutput, script_fault_line}
 use Rattle.lj_cli.specs.Ends.{Ends, HasOutput, Input, Output, Prints, too_large_text}
 use Rattle.lj_cli.specs.Headline.{HasHeadline, IsHeadline, KeepsHeadline}
@@ -75,10 +76,14 @@ module _ (texts : (f : Top) (us : List Upload) (json : Bool) (a b : List ℕ) �
 
     -- of an output that belongs to the bytes and that was printed whole with status 0
     served_headline : (json : Bool) (i : Input) (bytes text : List ℕ) (o : Output)
+        → HasRead i.left i.left_now bytes MAX_INPUT → IsAtEnd i.left_now → i.faults_now ≡ i.faults
         → IfSome i.left (λ left. bytes ≡ left) → IsServeCommandOutput json bytes text DONE
         → Appends o.written o.written_now text → KeepsHeadline json i o
-    served_headline json i bytes text o all (inl h) put = record {
+    served_headline json i bytes text o read at_end no_fault all (inl h) put = record {
       bytes = bytes;
+      read = read;
+      at_end = at_end;
+      no_fault = no_fault;
       all = all;
       script = h.script;
       spelled = h.spelled;
@@ -86,14 +91,15 @@ module _ (texts : (f : Top) (us : List Upload) (json : Bool) (a b : List ℕ) �
       headline = headline bytes text h.script json h.spelled h.output;
       written = put;
     }
-    served_headline json i bytes text o all (inr h) put = absurd (omega (arith, h.faulty))
+    served_headline json i bytes text o read at_end no_fault all (inr h) put = absurd (omega (arith, h.faulty))
 
     -- so a run that ends well keeps them
     pub run_headline : (json : Bool) (i : Input) (o : Output) (ended : ℕ) → Ends (IsServeCommandOutput json) i o ended
         → HasHeadline json i o ended
     run_headline json i o ended (inl h) done =
         let put = ended_well o h.text h.status ended h.printed done in
-        served_headline json i h.bytes h.text o (whole_is i.left i.left_now h.bytes h.read.taken h.at_end)
+        served_headline json i h.bytes h.text o h.read h.at_end h.no_fault
+        (whole_is i.left i.left_now h.bytes h.read.taken h.at_end)
         (subst (λ (n : ℕ). IsServeCommandOutput json h.bytes h.text n) put.0 h.belongs) put.1
     run_headline json i o ended (inr (inl h)) done =
         let put = ended_well o too_large_text TOO_LARGE ended h.printed done in absurd (omega (arith, put.0))
@@ -113,7 +119,10 @@ module _ (texts : (f : Top) (us : List Upload) (json : Bool) (a b : List ℕ) �
           script = h.script;
           spelled = h.spelled;
           served = out.ends;
+          served_is = out.served;
           built = one.0;
+          built_is = one.1;
+          accepted = out.accepted;
           same = one.2;
           report = out.report;
           closing = out.closing;

@@ -6,7 +6,8 @@ use Rattle.lj_base.specs.Blocks.{Covers}
 use Rattle.lj_base.specs.Cells.{Triple}
 use Rattle.lj_base.specs.Colex.{choose}
 use Rattle.lj_base.specs.Frames.{InFrame, Top}
-use Rattle.lj_base.specs.Streams.{Appends}
+use Rattle.lj_base.specs.Streams.{Appends, IsAtEnd}
+use Rattle.lj_base.specs.declared.limits.TheConstants.{MAX_INPUT}
 use Rattle.lj_blockfile.specs.BlockFiles.{AreBlocksOf}
 use Rattle.lj_blockfile.specs.Headers.{IsHeader}
 use Rattle.lj_blockfile.specs.declared.headers.Header.{Header}
@@ -25,6 +26,7 @@ use Rattle.lj_session.specs.ReplyTexts.{accepted_line}
 use Rattle.lj_session.specs.ServeReplies.{serve_service}
 use Rattle.lj_session.specs.declared.ends.SessionEnd.{SessionEnd}
 use Rattle.lj_upload.specs.Quotas.{Admits, Held}
+use Rattle.lj_text.specs.Inputs.{HasRead}
 use Rattle.lj_verify.specs.Limits.{IsWithinLimits}
 use Rattle.lj_cli.specs.Ends.{Input, Output}
 use Rattle.lj_cli.specs.ServeOutput.{rebuilt_line}
@@ -95,10 +97,13 @@ pub record IsHeadline (script : ScriptValue) (json : Bool) (text : List ℕ) : T
   pub as_build : (other : List ℕ) → IsBuildOutput script json other → (others : List SessionEnd)
       × AreBuilt script.frame [] script.clients others × (other ≡ sections_text script.clients others ++ report)
 
--- a run read these bytes, which are all that its source had, where it reports them; they spell a script, and what was
--- written is what `serve` promises of it
+-- a run read its input to the end without a fault, and these bytes are what it read, which are all that its source had,
+-- where it reports them; they spell a script, and what was written is what `serve` promises of it
 pub record KeepsHeadline (json : Bool) (i : Input) (o : Output) : Type 0 where
   pub bytes : List ℕ
+  pub read : HasRead i.left i.left_now bytes MAX_INPUT
+  pub at_end : IsAtEnd i.left_now
+  pub no_fault : i.faults_now ≡ i.faults
   pub all : IfSome i.left (λ left. bytes ≡ left)
   pub script : ScriptValue
   pub spelled : IsScript bytes script

@@ -1,6 +1,6 @@
 -- What a run of `serve` prints for an input, and the status that it ends with.
-use Rattle.std.specs.Prelude.{◌≡◌, ◌⊎◌, ℕ, Bool, if◌then◌else◌, List, ◌++◌, codes}
-use Rattle.lj_build.specs.Runs.{IsReport, sections_text, uploads_of}
+use Rattle.std.specs.Prelude.{◌≡◌, ◌⊎◌, ℕ, Bool, if◌then◌else◌, List, [], ◌++◌, codes}
+use Rattle.lj_build.specs.Runs.{AreBuilt, IsReport, sections_text, uploads_of}
 use Rattle.lj_gate.specs.Whole.{AreServedOf}
 use Rattle.lj_script.specs.Scripts.{IsScript}
 use Rattle.lj_script.specs.Values.{ScriptValue}
@@ -41,7 +41,10 @@ pub record HaveOneReport (json : Bool) (bytes text other : List ℕ) : Type 0 wh
   pub script : ScriptValue
   pub spelled : IsScript bytes script
   pub served : List SessionEnd
+  pub served_is : AreServedOf script.frame script.clients script.clients served
   pub built : List SessionEnd
+  pub built_is : AreBuilt script.frame [] script.clients built
+  pub accepted : AreAcceptedOfAll script.frame script.clients (uploads_of served)
   pub same : uploads_of served ≡ uploads_of built
   pub report : List ℕ
   pub closing : IsReport script.frame (uploads_of served) json report
