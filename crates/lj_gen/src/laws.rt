@@ -6,6 +6,7 @@ ghost use Rattle.lj_script.specs.Scripts.{IsScript};
 ghost use Rattle.lj_gen.specs.Generated.{gen_text, gen_value, upload_cell};
 ghost use Rattle.lj_gen.specs.Quadruples.{IsLexicographicallyBefore, gen_blocks, xor_of};
 
+use crate::limits::{MAX_DIMENSION, MIN_DIMENSION};
 use lj_blockfile::written_law;
 use lj_text::{decimal_law, lines_law, tokens_law, words_law};
 
@@ -20,8 +21,9 @@ pub fn quadruples_law()
 
 // The generated text is a script, and its body holds the quadruples.
 pub(crate) fn generated_law()
-    ensures script { (m : ℕ) → 2 ≤ m → m ≤ 6 → IsScript (gen_text m) (gen_value m) }
-    ensures blocks { (m : ℕ) → 2 ≤ m → m ≤ 6 → AreBlocksOf (blocks_text (gen_blocks m)) (2 ^ m) 4 (gen_blocks m) }
+    ensures script { (m : ℕ) → MIN_DIMENSION ≤ m → m ≤ MAX_DIMENSION → IsScript (gen_text m) (gen_value m) }
+    ensures blocks { (m : ℕ) → MIN_DIMENSION ≤ m → m ≤ MAX_DIMENSION →
+        AreBlocksOf (blocks_text (gen_blocks m)) (2 ^ m) 4 (gen_blocks m) }
 {
     decimal_law();
     tokens_law();

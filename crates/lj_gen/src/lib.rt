@@ -2,8 +2,10 @@
 #![tactic(auto)]
 
 mod laws;
+mod limits;
 mod quadruples;
 mod scripts;
 
 pub use laws::quadruples_law;
+pub use limits::{MAX_DIMENSION, MIN_DIMENSION};
 pub use scripts::gen_script;

@@ -8,6 +8,7 @@ ghost use Rattle.lj_gen.specs.Generated.{cell_line, gen_text, gen_value, head_li
 ghost use Rattle.lj_gen.specs.Quadruples.{IsLexicographicallyBefore, gen_blocks};
 
 use crate::laws::{generated_law, quadruples_law};
+use crate::limits::{MAX_DIMENSION, MIN_DIMENSION};
 use crate::quadruples::put_quadruples;
 use lj_base::{Cell, Memory};
 use lj_text::{fields_law, put, put_named};
@@ -17,8 +18,8 @@ use std::alloc::Global;
 /// quadruples of points from 0 with xor 0 as a covering, in lexicographic order, settles, and asks for the bounds of
 /// (V,4,3) and (V-1,3,2). There are `V (V-1) (V-2) / 24` blocks. It takes about four times as many steps.
 pub fn gen_script(alloc: Global, m: u64) -> Result<Vec<u8>, Memory>
-    requires low { 2 ≤ m }
-    requires high { m ≤ 6 }
+    requires low { MIN_DIMENSION ≤ m }
+    requires high { m ≤ MAX_DIMENSION }
     ensures text { IfOk result (λ text. text.items ≡ gen_text m) }
 
     // The text is a script, and its body holds the blocks.
@@ -37,8 +38,8 @@ pub fn gen_script(alloc: Global, m: u64) -> Result<Vec<u8>, Memory>
 
 // The text of the script.
 fn script_text(alloc: Global, m: u64) -> Result<Vec<u8>, Memory>
-    requires low { 2 ≤ m }
-    requires high { m ≤ 6 }
+    requires low { MIN_DIMENSION ≤ m }
+    requires high { m ≤ MAX_DIMENSION }
     ensures { IfOk result (λ text. text.items ≡ gen_text m) }
 {
     let v = point_count(m);
@@ -51,8 +52,8 @@ fn script_text(alloc: Global, m: u64) -> Result<Vec<u8>, Memory>
 
 // The number of points.
 fn point_count(m: u64) -> u8
-    requires low { 2 ≤ m }
-    requires high { m ≤ 6 }
+    requires low { MIN_DIMENSION ≤ m }
+    requires high { m ≤ MAX_DIMENSION }
     ensures count { result ≡ 2 ^ m }
     ensures some { 4 ≤ result }
     ensures few { result ≤ 64 }
@@ -166,8 +167,8 @@ mod tests {
 
     // The number of block lines: all but seven lines.
     fn block_lines(alloc: Global, m: u64) -> Result<usize, Memory>
-        requires low { 2 ≤ m }
-        requires high { m ≤ 6 }
+        requires low { MIN_DIMENSION ≤ m }
+        requires high { m ≤ MAX_DIMENSION }
     {
         let text = gen_script(alloc, m)?;
         let lines = text.iter().filter(|byte| **byte == b'\n').count();
