@@ -3,11 +3,11 @@ use Rattle.std.proofs.Common.{◌≡◌, ◌∙◌, ℕ, suc, ◌+◌, ◌≤◌
 use Rattle.std.proofs.Common.{length, map, take, refl, sym, ap, ap₂, subst, append_assoc, append-nil, drop-cons}
 use Rattle.std.proofs.Common.{IfSome, inl, inr, min, ⊎_elim}
 use Rattle.std.proofs.lemmas.Bool.{cases_lt}
-use Rattle.std.proofs.lemmas.List.{drop_all, map-append, take_all, take_more}
+use Rattle.std.proofs.lemmas.List.{drop_all, get_or-map, length-map, map-append, take_more}
 use Rattle.std.proofs.lemmas.Option.{IfSome_then}
 use Rattle.lj_base.specs.Bounds.{at_cell}
-use Rattle.lj_base.specs.Cells.{IsCell, Triple}
-use Rattle.lj_base.specs.Frames.{Top, index_of, size_of}
+use Rattle.lj_base.specs.Cells.{IsCell}
+use Rattle.lj_base.specs.Frames.{Top, size_of}
 use Rattle.lj_base.specs.Streams.{Appends, Rose}
 use Rattle.lj_base.specs.declared.limits.TheConstants.{MAX_INPUT}
 use Rattle.lj_cover.specs.Derivations.{IsLeast}
@@ -19,11 +19,11 @@ use Rattle.lj_script.specs.declared.faults.ScriptFault.{ScriptFault}
 use Rattle.lj_script.specs.declared.faults.ScriptFault.TheVariants.{Memory}
 use Rattle.lj_session.specs.AcceptedUploads.{AreAcceptedOfAll}
 use Rattle.lj_session.specs.declared.ends.SessionEnd.{SessionEnd}
-use Rattle.lj_table.specs.Tables.{Contents, state_of}
+use Rattle.lj_table.specs.Tables.{Contents}
 use Rattle.lj_build.specs.Building.{IsWholeBuilt, Rests}
 use Rattle.lj_build.specs.Runs.{AreBuilt, AreLeastBounds, IsBuildOutput, IsReport, client_line, report_of}
 use Rattle.lj_build.specs.Runs.{sections_text, uploads_of}
-use Rattle.lj_cli.specs.BuildOutput.{EndsWithReport, IsBuildCommandOutput, replies_text, script_fault_line}
+use Rattle.lj_cli.specs.BuildOutput.{EndsWithReport, IsBuildCommandOutput, script_fault_line}
 use Rattle.lj_cli.specs.Ends.{Ends, HasOutput, Input, Output}
 use Rattle.lj_cli.specs.Running.{HasBuilt}
 use Rattle.lj_cli.specs.declared.status.TheConstants.{DONE, FAULTY, NO_MEMORY}
@@ -44,67 +44,58 @@ names_more sections i section before now inside is h j =
     ∙ sym (ap names_of more)
 
 -- the replies of the section at a place
-pub replies_more : (names : List (List ℕ)) (ends : List SessionEnd) (i : ℕ) (name : List ℕ) (e : SessionEnd)
-    (before now whole : List ℕ) → i < length names → i < length ends → name ≡ get_or names i name → e ≡ get_or ends i e
-    → before ++ replies_text (drop i names) (drop i ends) ≡ whole → now ≡ before ++ (client_line name ++ e.replies)
-    → now ++ replies_text (drop (i + 1) names) (drop (i + 1) ends) ≡ whole
-replies_more names ends i name e before now whole some inside is there h j =
+pub replies_more : (sections : List SectionValue) (names : List (List ℕ)) (ends : List SessionEnd) (i : ℕ)
+    (name : List ℕ) (e : SessionEnd) (before now whole : List ℕ) → names ≡ names_of sections → i < length names
+    → i < length ends → name ≡ get_or names i name → e ≡ get_or ends i e
+    → before ++ sections_text (drop i sections) (drop i ends) ≡ whole
+    → now ≡ before ++ (client_line name ++ e.replies)
+    → now ++ sections_text (drop (i + 1) sections) (drop (i + 1) ends) ≡ whole
+replies_more sections names ends i name e before now whole are some inside is there h j =
     let next : i + 1 ≡ suc i = omega arith in
-    let first : drop i names ≡ name ∷ drop (suc i) names =
-    drop-cons names i name some ∙ ap (λ n. n ∷ drop (suc i) names) (sym is) in
+    let count : length names ≡ length sections =
+    ap (λ (ns : List (List ℕ)). length ns) are ∙ length-map sections (λ (x : SectionValue). x.name) in
+    let inside_sections : i < length sections = omega (arith, some, count) in
+    let other : SectionValue = record { name = name; commands = [] } in
+    let s : SectionValue = get_or sections i other in
+    let named : name ≡ s.name =
+    is ∙ ap (λ (ns : List (List ℕ)). get_or ns i name) are
+    ∙ get_or-map (λ (x : SectionValue). x.name) sections i other name inside_sections in
+    let first : drop i sections ≡ s ∷ drop (suc i) sections = drop-cons sections i other inside_sections in
     let last : drop i ends ≡ e ∷ drop (suc i) ends =
     drop-cons ends i e inside ∙ ap (λ (x : SessionEnd). x ∷ drop (suc i) ends) (sym there) in
-    let rest : List ℕ = replies_text (drop (suc i) names) (drop (suc i) ends) in
+    let rest : List ℕ = sections_text (drop (suc i) sections) (drop (suc i) ends) in
+    let line : now ≡ before ++ (client_line s.name ++ e.replies) =
+    j ∙ ap (λ (n : List ℕ). before ++ (client_line n ++ e.replies)) named in
     let shown : now ++ rest ≡ whole =
-    ap (λ text. text ++ rest) j ∙ append_assoc before (client_line name ++ e.replies) rest
-    ∙ ap₂ (λ (ns : List (List ℕ)) (es : List SessionEnd). before ++ replies_text ns es) (sym first) (sym last) ∙ h in
-    subst (λ n. now ++ replies_text (drop n names) (drop n ends) ≡ whole) (sym next) shown
+    ap (λ text. text ++ rest) line ∙ append_assoc before (client_line s.name ++ e.replies) rest
+    ∙ ap (λ text. before ++ text) (append_assoc (client_line s.name) e.replies rest)
+    ∙ ap₂ (λ (ss : List SectionValue) (es : List SessionEnd). before ++ sections_text ss es) (sym first) (sym last)
+    ∙ h in
+    subst (λ n. now ++ sections_text (drop n sections) (drop n ends) ≡ whole) (sym next) shown
 
-no_names : (ends : List SessionEnd) → replies_text [] ends ≡ []
-no_names [] = refl
-no_names (e ∷ ends) = refl
-
-no_ends : (names : List (List ℕ)) → replies_text names [] ≡ []
-no_ends names = refl
+no_ends : (sections : List SectionValue) → sections_text sections [] ≡ []
+no_ends [] = refl
+no_ends (s ∷ sections) = refl
 
 -- where one of the lists has ended nothing is left
-nothing_left : (names : List (List ℕ)) (ends : List SessionEnd) (i : ℕ) → i ≡ min (length names) (length ends)
-    → replies_text (drop i names) (drop i ends) ≡ []
-nothing_left names ends i end = ⊎_elim
-    (λ (less : length ends < length names).
-    ap (λ (es : List SessionEnd). replies_text (drop i names) es) (drop_all i ends (omega (arith, end, less)))
-    ∙ no_ends (drop i names))
-    (λ (more : length names ≤ length ends).
-    ap (λ (ns : List (List ℕ)). replies_text ns (drop i ends)) (drop_all i names (omega (arith, end, more)))
-    ∙ no_names (drop i ends))
-    (cases_lt (length ends) (length names))
+nothing_left : (sections : List SectionValue) (ends : List SessionEnd) (i : ℕ)
+    → i ≡ min (length sections) (length ends) → sections_text (drop i sections) (drop i ends) ≡ []
+nothing_left sections ends i end = ⊎_elim
+    (λ (less : length ends < length sections).
+    ap (λ (es : List SessionEnd). sections_text (drop i sections) es) (drop_all i ends (omega (arith, end, less)))
+    ∙ no_ends (drop i sections))
+    (λ (more : length sections ≤ length ends).
+    ap (λ (ss : List SectionValue). sections_text ss (drop i ends)) (drop_all i sections (omega (arith, end, more))))
+    (cases_lt (length ends) (length sections))
 
-pub replies_done : (names : List (List ℕ)) (ends : List SessionEnd) (i : ℕ) (now whole : List ℕ)
-    → i ≡ min (length names) (length ends) → now ++ replies_text (drop i names) (drop i ends) ≡ whole → now ≡ whole
-replies_done names ends i now whole end h =
-    sym (append-nil now) ∙ ap (λ text. now ++ text) (sym (nothing_left names ends i end)) ∙ h
-
--- the replies by the names are those by the sections
-pub sections_replies : (sections : List SectionValue) (ends : List SessionEnd)
-    → replies_text (names_of sections) ends ≡ sections_text sections ends
-sections_replies [] [] = refl
-sections_replies [] (e ∷ ends) = refl
-sections_replies (s ∷ sections) [] = refl
-sections_replies (s ∷ sections) (e ∷ ends) =
-    append_assoc (client_line s.name) e.replies (replies_text (names_of sections) ends)
-    ∙ ap (λ text. client_line s.name ++ (e.replies ++ text)) (sections_replies sections ends)
-
--- one bound more
-pub bounds_more : (t : Contents) (f : Top) (i : ℕ) (c : Triple) (b : ℕ) (before now : List ℕ)
-    → f ≡ t.arena.frame → index_of f c ≡ i → b ≡ (state_of t).bounds c → i < length t.bounds
-    → before ≡ take i t.bounds → now ≡ before ++ b ∷ [] → now ≡ take (i + 1) t.bounds
-bounds_more t f i c b before now frame place is inside h j =
-    let index : index_of t.arena.frame c ≡ i = ap (λ (x : Top). index_of x c) (sym frame) ∙ place in
-    let value : b ≡ get_or t.bounds i 0 = is ∙ ap (λ n. get_or t.bounds n 0) index in
-    j ∙ ap₂ (λ (ns : List ℕ) (n : ℕ). ns ++ n ∷ []) h value ∙ sym (take_more t.bounds i 0 inside)
-
-pub bounds_done : (all : List ℕ) (i : ℕ) (now : List ℕ) → length all ≤ i → now ≡ take i all → now ≡ all
-bounds_done all i now done h = h ∙ take_all i all done
+pub replies_done : (sections : List SectionValue) (names : List (List ℕ)) (ends : List SessionEnd) (i : ℕ)
+    (now whole : List ℕ) → names ≡ names_of sections → i ≡ min (length names) (length ends)
+    → now ++ sections_text (drop i sections) (drop i ends) ≡ whole → now ≡ whole
+replies_done sections names ends i now whole are end h =
+    let count : length names ≡ length sections =
+    ap (λ (ns : List (List ℕ)). length ns) are ∙ length-map sections (λ (x : SectionValue). x.name) in
+    let at : i ≡ min (length sections) (length ends) = end ∙ ap (λ (n : ℕ). min n (length ends)) count in
+    sym (append-nil now) ∙ ap (λ text. now ++ text) (sym (nothing_left sections ends i at)) ∙ h
 
 -- the bounds of a table at rest are the least
 least_bounds : (f : Top) (us : List Upload) (t : Contents) → Rests f us t → length t.bounds ≡ size_of t.arena.frame
@@ -117,18 +108,14 @@ least_bounds f us t rests count = record {
       (λ i. (rests.frame i, rests.uploads_are i)) least;
 }
 
-pub whole_text : (script : ScriptValue) (json : Bool) (names : List (List ℕ)) (ends : List SessionEnd) (t : Contents)
-    (lent : List (List ℕ)) (all : List SessionEnd) (start middle whole : List ℕ) → IsWholeBuilt script ends t
-    → length t.bounds ≡ size_of t.arena.frame → names ≡ names_of script.clients → lent ≡ names → all ≡ ends
-    → start ≡ [] → middle ≡ start ++ replies_text lent all → whole ≡ middle ++ report_of t.arena.frame json t.bounds
-    → IsBuildOutput script json whole
-whole_text script json names ends t lent all start middle whole built count is same items none h j =
+pub whole_text : (script : ScriptValue) (json : Bool) (ends : List SessionEnd) (t : Contents) (all : List SessionEnd)
+    (start middle whole : List ℕ) → IsWholeBuilt script ends t → length t.bounds ≡ size_of t.arena.frame
+    → all ≡ ends → start ≡ [] → middle ≡ start ++ sections_text script.clients all
+    → whole ≡ middle ++ report_of t.arena.frame json t.bounds → IsBuildOutput script json whole
+whole_text script json ends t all start middle whole built count items none h j =
     let report = report_of script.frame json t.bounds in
-    let clients : lent ≡ names_of script.clients = same ∙ is in
     let replies : middle ≡ sections_text script.clients ends =
-    h ∙ ap (λ (text : List ℕ). text ++ replies_text lent all) none
-    ∙ ap₂ (λ (ns : List (List ℕ)) (es : List SessionEnd). replies_text ns es) clients items
-    ∙ sections_replies script.clients ends in (
+    h ∙ ap₂ (λ (text : List ℕ) (es : List SessionEnd). text ++ sections_text script.clients es) none items in (
       ends,
       report,
       built.built,

@@ -1,12 +1,14 @@
 -- What follows from the way in which a command ends.
 use Rattle.std.proofs.Common.{◌≡◌, ◌⊎◌, ◌∙◌, ℕ, ◌≤◌, ◌<◌, List, Option, None, Some, IfSome, length, sym, ap, subst}
-use Rattle.std.proofs.Common.{arith}
+use Rattle.std.proofs.Common.{Err, IfOk, MatchResult, Ok, Result, arith}
 use Rattle.std.proofs.Common.{◌++◌, append-nil, inl, inr, length-append, ⊎_elim}
 use Rattle.std.proofs.lemmas.Option.{IfSome_then}
 use Rattle.lj_base.specs.Streams.{Appends, Consumes, IsAtEnd, Rose}
 use Rattle.lj_base.specs.declared.limits.TheConstants.{MAX_INPUT}
+use Rattle.lj_text.specs.Inputs.{HasRead}
 use Rattle.lj_cli.specs.Ends.{Ends, EndsUnread, EndsWithOutput, EndsWithText, EndsWithUsage, HasOutput, Input}
 use Rattle.lj_cli.specs.Ends.{IsComplete, Output, Prints, PrintsNothing, too_large_text, usage_text}
+use Rattle.lj_cli.specs.declared.prints.Made.{Made}
 use Rattle.lj_cli.specs.declared.status.TheConstants.{BAD_WORDS, DONE, NO_MEMORY, TOO_LARGE}
 
 -- no write failed: the text was printed with its status
@@ -14,6 +16,38 @@ printed : (o : Output) (text : List ℕ) (status ended : ℕ) → Prints o text 
     → (Rose o.faults o.faults_now → ⊥) → (ended ≡ status) × Appends o.written o.written_now text
 printed o text status ended (inl h) calm = (h.0, h.1)
 printed o text status ended (inr h) calm = absurd (calm h.1)
+
+-- what was made of an input that was read to its end, and printed
+pub made_ends : {E : Type 0} (output : List ℕ → List ℕ → ℕ → Type 0) (i : Input) (o : Output) (bytes lent : List ℕ)
+    (ended : ℕ) (made : Result Made E) → lent ≡ bytes → IfOk made (λ m. output lent m.text.items m.status)
+    → MatchResult made (λ m. Prints o m.text.items m.status ended) (λ e. PrintsNothing o ended)
+    → HasRead i.left i.left_now bytes MAX_INPUT → IsAtEnd i.left_now → i.faults_now ≡ i.faults
+    → Ends output i o ended
+made_ends output i o bytes lent ended (Ok m) same is put read at_end no_fault = inl (record {
+  bytes = bytes;
+  text = m.text.items;
+  status = m.status;
+  belongs = subst (λ (bs : List ℕ). output bs m.text.items m.status) same is;
+  printed = put;
+  read = read;
+  at_end = at_end;
+  no_fault = no_fault;
+})
+made_ends output i o bytes lent ended (Err e) same is none read at_end no_fault = inr (inr (inr (record {
+  status = none.status;
+  bytes = bytes;
+  read = read;
+  no_fault = no_fault;
+  nothing = none.nothing;
+})))
+
+-- and what was made without an input
+pub made_unread : {E : Type 0} (output : List ℕ → ℕ → Type 0) (o : Output) (ended : ℕ) (made : Result Made E)
+    → IfOk made (λ m. output m.text.items m.status)
+    → MatchResult made (λ m. Prints o m.text.items m.status ended) (λ e. PrintsNothing o ended)
+    → EndsWithOutput output o ended
+made_unread output o ended (Ok m) is put = inl (m.text.items, m.status, is, put)
+made_unread output o ended (Err e) is none = inr none
 
 -- a source that is at its end gave all that it had
 pub whole_is : (a b : Option (List ℕ)) (bs : List ℕ) → Consumes a b bs → IsAtEnd b → IfSome a (λ all. bs ≡ all)

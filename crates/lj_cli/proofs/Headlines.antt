@@ -23,7 +23,7 @@ use Rattle.lj_cli.specs.Running.{HasServed}
 use Rattle.lj_cli.specs.ServeOutput.{HaveOneReport, IsServeCommandOutput, IsServeOutput}
 use Rattle.lj_cli.specs.declared.status.TheConstants.{DONE, FAULTY, NO_MEMORY, TOO_LARGE}
 use Rattle.lj_cli.proofs.Ending.{small, whole_is}
-use Rattle.lj_cli.proofs.Replied.{Laws, told}
+use Rattle.lj_cli.proofs.Replied.{Laws, clients_read}
 
 -- the frame of a script that bytes spell is within the limits
 frame_in_limits : (bytes : List ℕ) (script : ScriptValue) → IsScript bytes script → IsCell script.frame.top
@@ -65,7 +65,7 @@ module _ (texts : (f : Top) (us : List Upload) (json : Bool) (a b : List ℕ) �
       report = out.report;
       rebuilt = out.rebuilt;
       text_is = out.text_is;
-      clients = told laws script (uploads_of out.ends) out.accepted script.clients out.ends out.served;
+      clients = clients_read laws script (uploads_of out.ends) out.accepted script.clients out.ends out.served;
       accepted = out.accepted;
       sources = sources script.frame script.clients (uploads_of out.ends) out.accepted;
       least = out.closing;

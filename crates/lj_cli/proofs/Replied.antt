@@ -34,7 +34,7 @@ use Rattle.lj_verify.specs.Limits.{IsWithinLimits}
 use Rattle.lj_verify.specs.Refusals.{IsRefused}
 use Rattle.lj_verify.specs.declared.refusals.Refusal.{Refusal}
 use Rattle.lj_verify.specs.declared.refusals.Refusal.TheVariants.{Memory as NoMemory}
-use Rattle.lj_cli.specs.Headline.{AcceptsCoverings, IsFounded, IsTold, IsWithin, NeverRise, service_of}
+use Rattle.lj_cli.specs.Headline.{AcceptsCoverings, IsFounded, IsClientRead, IsWithin, NeverRise, service_of}
 
 -- a reply reports a number that may be, or none
 abbrev Reports : Service → Progress → Progress → Type 0
@@ -158,20 +158,22 @@ checked : Laws → (f : Top) (before : Held) (command : Command) (d : Covering) 
     → IsWithin f before command d → UploadGives f before command outcome → CheckGives d.cell d.blocks outcome
 checked laws f before (Offered c body) d outcome within gives =
     let same = sym within.offers.0 in
+    let are = subst (λ (text : List ℕ). AreBlocksOf text d.cell.v d.cell.k d.blocks) within.offers.1 within.blocks in
     let there = subst (λ (x : Triple). FrameGives f before (record { cell = x; before = 0; announced = None }) body
     outcome) same gives in
     frame_checked laws f before d.cell 0 None body d.blocks outcome
-    within.inside within.offers.1 within.admits (λ n. announced None n (length d.blocks) tt) there
+    within.inside are within.admits (λ n. announced None n (length d.blocks) tt) there
 checked laws f before (UploadFile body) d outcome within (inl gives) =
     let same : gives.0 ≡ within.offers.0 = laws.header body gives.0 within.offers.0 gives.1 within.offers.1 in
     let h = within.offers.0 in
     let there = subst (λ (x : Header). FrameGives f before (offer_of x) (drop x.rest body) outcome) same gives.2 in
     let cell = within.offers.2 in
+    let are = subst (λ (text : List ℕ). AreBlocksOf text d.cell.v d.cell.k d.blocks) within.offers.3 within.blocks in
     subst (λ (c : Triple). CheckGives c d.blocks outcome) (sym cell)
     (frame_checked laws f before h.cell h.line (Some h.n) (drop h.rest body) d.blocks outcome
     (subst (λ (c : Triple). InFrame f c) cell within.inside)
-    (subst (λ (c : Triple). AreBlocksOf (drop h.rest body) c.v c.k d.blocks) cell within.offers.4) within.admits
-    (λ n. announced (Some h.n) n (length d.blocks) within.offers.3) there)
+    (subst (λ (c : Triple). AreBlocksOf (drop h.rest body) c.v c.k d.blocks) cell are) within.admits
+    (λ n. announced (Some h.n) n (length d.blocks) (within.announces body h refl within.offers.1)) there)
 checked laws f before (UploadFile body) d outcome within (inr gives) =
     absurd (gives.0 within.offers.0 within.offers.1)
 checked laws f before (Bound c) d outcome within gives = absurd gives
@@ -214,13 +216,13 @@ founded laws f sections us accepted c b how =
     }
 
 -- what the client of a section that was served reads
-pub told : Laws → (script : ScriptValue) (us : List Upload) → AreAcceptedOfAll script.frame script.clients us
+pub clients_read : Laws → (script : ScriptValue) (us : List Upload) → AreAcceptedOfAll script.frame script.clients us
     → (sections : List SectionValue) (ends : List SessionEnd)
-    → AreServedOf script.frame script.clients sections ends → AllZip (IsTold script us) sections ends
-told laws script us accepted [] [] served = tt
-told laws script us accepted [] (e ∷ ends) served = absurd served
-told laws script us accepted (section ∷ sections) [] served = absurd served
-told laws script us accepted (section ∷ sections) (e ∷ ends) ((end, replies), own, others) =
+    → AreServedOf script.frame script.clients sections ends → AllZip (IsClientRead script us) sections ends
+clients_read laws script us accepted [] [] served = tt
+clients_read laws script us accepted [] (e ∷ ends) served = absurd served
+clients_read laws script us accepted (section ∷ sections) [] served = absurd served
+clients_read laws script us accepted (section ∷ sections) (e ∷ ends) ((end, replies), own, others) =
     let s = service_of script section.name in (
       record {
         end = end;
@@ -233,5 +235,5 @@ told laws script us accepted (section ∷ sections) (e ∷ ends) ((end, replies)
         fall = reported_all s NeverRise (λ p c b number before. (number.1.reported, before))
             section.commands no_progress e.replies end tt replies;
       },
-      told laws script us accepted sections ends others,
+      clients_read laws script us accepted sections ends others,
     )

@@ -1,7 +1,7 @@
 -- What serving the generated script comes to.
 use Rattle.std.proofs.Common.{◌≡◌, ◌∙◌, ℕ, zero, suc, ◌+◌, ◌-◌, ◌*◌, ◌^◌, ◌≤◌, ◌⊎◌, List, [], ◌∷◌, ◌++◌, Ok}
 use Rattle.std.proofs.Common.{arith, codes, length, refl, sym, ap, ap₂, subst, inl, inr, append_assoc}
-use Rattle.std.proofs.Common.{Bool, append-nil, drop, length-append}
+use Rattle.std.proofs.Common.{append-nil, drop, length-append}
 use Rattle.std.proofs.Math.Seq.{drop-append_seam}
 use Rattle.std.specs.List.{sum_by}
 use Rattle.lj_base.specs.Blocks.{Covers}
@@ -11,6 +11,7 @@ use Rattle.lj_base.specs.Colex.{choose}
 use Rattle.lj_base.specs.Frames.{InFrame, Top}
 use Rattle.lj_blockfile.specs.BlockFiles.{AreBlocksOf, blocks_text}
 use Rattle.lj_build.specs.Runs.{AreLeastBounds, uploads_of}
+use Rattle.lj_build.specs.declared.closing.Closed.{Closed}
 use Rattle.lj_cover.specs.Derivations.{IsLeast}
 use Rattle.lj_cover.specs.Designs.{Covering}
 use Rattle.lj_cover.specs.Rules.{Upload}
@@ -31,7 +32,6 @@ use Rattle.lj_session.specs.Replies.{AreReplies, IsReadReply, Progress, ReportsB
 use Rattle.lj_session.specs.Replies.{outcome_line}
 use Rattle.lj_session.specs.ReplyTexts.{accepted_line, bound_line, numbers_line, settled_line}
 use Rattle.lj_session.specs.declared.ends.SessionEnd.{SessionEnd}
-use Rattle.lj_table.specs.Tables.{Contents}
 use Rattle.lj_upload.specs.Quotas.{Held}
 use Rattle.lj_verify.specs.Limits.{IsWithinLimits}
 use Rattle.lj_cli.specs.BigOutput.{IsBigOutput, big_text, bound_lines, gen_upload}
@@ -242,43 +242,43 @@ lines_left m n e front h count is =
     ∙ drop-append_seam front (bound_lines m h.whole h.derived)
 
 -- the bounds of the table that the run was closed with are the least for the uploads of its only end
-pub closed_bounds : (m : ℕ) (ends lent : List SessionEnd) (e : SessionEnd) (t : Contents)
-    → IsWholeServed (gen_value m) ends t → lent ≡ ends → lent ≡ e ∷ []
-    → AreLeastBounds (gen_value m).frame e.accepted t.bounds
-closed_bounds m ends lent e t served same only =
+pub closed_bounds : (m : ℕ) (ends lent : List SessionEnd) (e : SessionEnd) (c : Closed)
+    → IsWholeServed (gen_value m) ends c → lent ≡ ends → lent ≡ e ∷ []
+    → AreLeastBounds (gen_value m).frame e.accepted c.table.bounds
+closed_bounds m ends lent e c served same only =
     let f = (gen_value m).frame in
-    let frame : t.arena.frame ≡ f = served.closed.has.frame in
+    let frame : c.table.arena.frame ≡ f = served.closed.has.frame in
     let us : uploads_of ends ≡ e.accepted =
     ap (λ (es : List SessionEnd). uploads_of es) (sym same ∙ only) ∙ append-nil e.accepted in record {
       count = served.closed.count;
-      least = λ c inside. subst (λ (x : Top × List Upload). IsLeast f x.1 c (at_cell x.0 t.bounds c))
-          (λ i. (frame i, us i)) (served.closed.least c inside);
+      least = λ d inside. subst (λ (x : Top × List Upload). IsLeast f x.1 d (at_cell x.0 c.table.bounds d))
+          (λ i. (frame i, us i)) (served.closed.least d inside);
     }
 
 -- the summary
-pub summed : (m n : ℕ) (ends lent : List SessionEnd) (e : SessionEnd) (t : Contents) (front lines whole : List ℕ)
-    (cells sum : ℕ) (rebuilt : Bool) (h : IsBigSession m e) → IsWholeServed (gen_value m) ends t → lent ≡ ends
+pub summed : (m n : ℕ) (ends lent : List SessionEnd) (e : SessionEnd) (c : Closed) (front lines whole : List ℕ)
+    (cells sum : ℕ) (h : IsBigSession m e) → IsWholeServed (gen_value m) ends c → lent ≡ ends
     → lent ≡ e ∷ [] → n ≡ length (gen_blocks m)
     → front ≡ numbers_line (codes "accepted") (1 ∷ n ∷ []) ++ settled_line → lines ≡ drop (length front) e.replies
-    → cells ≡ length (report_cells t.arena.frame)
-    → sum ≡ sum_by (at_cell t.arena.frame t.bounds) (report_cells t.arena.frame)
-    → whole ≡ big_text m n lines cells sum rebuilt → IsBigOutput m whole
-summed m n ends lent e t front lines whole cells sum rebuilt h served same only count is left counted added text =
-    let frame : t.arena.frame ≡ (gen_value m).frame = served.closed.has.frame in
+    → cells ≡ length (report_cells c.table.arena.frame)
+    → sum ≡ sum_by (at_cell c.table.arena.frame c.table.bounds) (report_cells c.table.arena.frame)
+    → whole ≡ big_text m n lines cells sum c.rebuilt → IsBigOutput m whole
+summed m n ends lent e c front lines whole cells sum h served same only count is left counted added text =
+    let frame : c.table.arena.frame ≡ (gen_value m).frame = served.closed.has.frame in
     let there : lines ≡ bound_lines m h.whole h.derived = left ∙ lines_left m n e front h count is in
     let number = counted ∙ ap (λ (f : Top). length (report_cells f)) frame in
-    let total = added ∙ ap (λ (f : Top). sum_by (at_cell f t.bounds) (report_cells f)) frame in record {
+    let total = added ∙ ap (λ (f : Top). sum_by (at_cell f c.table.bounds) (report_cells f)) frame in record {
       end = e;
       served = h.served;
       accepted = h.accepted;
       whole = h.whole;
       derived = h.derived;
       replies = h.replies;
-      bounds = t.bounds;
-      least = closed_bounds m ends lent e t served same only;
-      rebuilt = rebuilt;
+      bounds = c.table.bounds;
+      least = closed_bounds m ends lent e c served same only;
+      rebuilt = c.rebuilt;
       text_is = text
-          ∙ ap₂ (λ (k : ℕ) (x : List ℕ). big_text m k x cells sum rebuilt) count there
-          ∙ ap₂ (λ (k l : ℕ). big_text m (length (gen_blocks m)) (bound_lines m h.whole h.derived) k l rebuilt)
+          ∙ ap₂ (λ (k : ℕ) (x : List ℕ). big_text m k x cells sum c.rebuilt) count there
+          ∙ ap₂ (λ (k l : ℕ). big_text m (length (gen_blocks m)) (bound_lines m h.whole h.derived) k l c.rebuilt)
           number total;
     }

@@ -9,8 +9,7 @@ use Rattle.lj_script.specs.declared.faults.ScriptFault.{ScriptFault}
 use Rattle.lj_script.specs.declared.faults.ScriptFault.TheVariants.{NoFrame, BadLine, BadFrame, Unended, TooManyClients}
 use Rattle.lj_script.specs.declared.faults.ScriptFault.TheVariants.{TooManyCommands, Memory}
 use Rattle.lj_session.specs.AcceptedUploads.{AreAcceptedOfAll}
-use Rattle.lj_session.specs.declared.ends.SessionEnd.{SessionEnd}
-use Rattle.lj_build.specs.Runs.{IsBuildOutput, IsReport, client_line}
+use Rattle.lj_build.specs.Runs.{IsBuildOutput, IsReport}
 use Rattle.lj_cli.specs.declared.status.TheConstants.{DONE, FAULTY}
 
 -- the number of a line, and what is wrong with it
@@ -29,12 +28,6 @@ script_fault_text Memory = []
 
 abbrev pub script_fault_line : ScriptFault → List ℕ
 script_fault_line fault = codes "fault " ++ script_fault_text fault ++ 10 ∷ []
-
--- for each client its line and its replies
-abbrev pub replies_text : List (List ℕ) → List SessionEnd → List ℕ
-replies_text names [] = []
-replies_text [] (e ∷ ends) = []
-replies_text (name ∷ names) (e ∷ ends) = client_line name ++ e.replies ++ replies_text names ends
 
 -- the bytes spell a script, and the text is what it comes to
 pub record IsBuilt (json : Bool) (bytes text : List ℕ) (status : ℕ) : Type 0 where

@@ -2,6 +2,7 @@
 use Rattle.std.specs.Prelude.{◌≡◌, ℕ, ◌≤◌, Bool, if◌then◌else◌, List, [], ◌∷◌, Some, map, codes, String, string_bytes}
 use Rattle.std.specs.Global.{Global}
 use Rattle.lj_base.specs.Cells.{IsCell, Triple}
+use Rattle.lj_gen.specs.declared.limits.TheConstants.{MAX_DIMENSION, MIN_DIMENSION}
 use Rattle.lj_verify.specs.declared.limits.TheConstants.{MAX_WORKERS}
 use Rattle.lj_cli.specs.Given.{Arguments, given_by}
 use Rattle.lj_cli.specs.declared.words.BigCall.{BigCall}
@@ -41,12 +42,13 @@ IsServeCall g call = (g.numbers ≡ []) × (g.workers ≡ call.workers ∷ []) �
 
 -- gen M
 abbrev pub IsGenCall : Arguments → ℕ → Type 0
-IsGenCall g m = (g.numbers ≡ m ∷ []) × (2 ≤ m) × (m ≤ 6) × (g.workers ≡ []) × (g.json ≡ 0)
+IsGenCall g m = (g.numbers ≡ m ∷ []) × (MIN_DIMENSION ≤ m) × (m ≤ MAX_DIMENSION)
+    × (g.workers ≡ []) × (g.json ≡ 0)
 
 -- big M --workers N
 abbrev pub IsBigCall : Arguments → BigCall → Type 0
-IsBigCall g call = (g.numbers ≡ call.m ∷ []) × (2 ≤ call.m) × (call.m ≤ 6) × (g.workers ≡ call.workers ∷ [])
-    × (1 ≤ call.workers) × (call.workers ≤ MAX_WORKERS) × (g.json ≡ 0)
+IsBigCall g call = (g.numbers ≡ call.m ∷ []) × (MIN_DIMENSION ≤ call.m) × (call.m ≤ MAX_DIMENSION)
+    × (g.workers ≡ call.workers ∷ []) × (1 ≤ call.workers) × (call.workers ≤ MAX_WORKERS) × (g.json ≡ 0)
 
 -- the command's name and what was given after it call for this
 abbrev pub IsCall : List ℕ → Arguments → Call → Type 0
@@ -69,8 +71,9 @@ abbrev pub TakesNumbers : Call → Type 0
 TakesNumbers (Check call) = (1 ≤ call.cell.k) × (1 ≤ call.workers) × (call.workers ≤ MAX_WORKERS)
 TakesNumbers (Build json) = Unit {0}
 TakesNumbers (Serve call) = (1 ≤ call.workers) × (call.workers ≤ MAX_WORKERS)
-TakesNumbers (Gen m) = (2 ≤ m) × (m ≤ 6)
-TakesNumbers (Big call) = (2 ≤ call.m) × (call.m ≤ 6) × (1 ≤ call.workers) × (call.workers ≤ MAX_WORKERS)
+TakesNumbers (Gen m) = (MIN_DIMENSION ≤ m) × (m ≤ MAX_DIMENSION)
+TakesNumbers (Big call) = (MIN_DIMENSION ≤ call.m) × (call.m ≤ MAX_DIMENSION) × (1 ≤ call.workers)
+    × (call.workers ≤ MAX_WORKERS)
 TakesNumbers (Excess cell) = 1 ≤ cell.k
 TakesNumbers (Greedy cell) = 1 ≤ cell.k
 TakesNumbers (Reduce cell) = 1 ≤ cell.k

@@ -1,9 +1,8 @@
 -- The headline of `serve`, word by word: which uploads are accepted, what each number that a client reads is worth, and
 -- what the closing report says.
-use Rattle.std.specs.Prelude.{◌≡◌, ◌↔◌, ℕ, ◌≤◌, Bool, IfSome, List, [], ◌∷◌, ◌++◌, drop, length}
+use Rattle.std.specs.Prelude.{◌≡◌, ◌↔◌, ℕ, ◌≤◌, Bool, IfSome, List, [], ◌∷◌, ◌++◌, length}
 use Rattle.std.specs.List.{AllByRecursion, AllZip, Contains}
 use Rattle.lj_base.specs.Blocks.{Covers}
-use Rattle.lj_base.specs.Cells.{Triple}
 use Rattle.lj_base.specs.Colex.{choose}
 use Rattle.lj_base.specs.Frames.{InFrame, Top}
 use Rattle.lj_base.specs.Streams.{Appends, IsAtEnd}
@@ -18,8 +17,9 @@ use Rattle.lj_cover.specs.Rules.{Upload}
 use Rattle.lj_script.specs.Scripts.{IsScript}
 use Rattle.lj_script.specs.Values.{ScriptValue, SectionValue}
 use Rattle.lj_script.specs.declared.scripts.Command.{Command}
-use Rattle.lj_script.specs.declared.scripts.Command.TheVariants.{Upload as Offered, UploadFile}
+use Rattle.lj_script.specs.declared.scripts.Command.TheVariants.{UploadFile}
 use Rattle.lj_session.specs.AcceptedUploads.{AreAcceptedOf, AreAcceptedOfAll, IsAcceptedIn}
+use Rattle.lj_session.specs.Offered.{Offers}
 use Rattle.lj_session.specs.Outcomes.{held, upload_of}
 use Rattle.lj_session.specs.Replies.{AreReplies, IsUploadReply, Progress, Reported, Service, no_progress}
 use Rattle.lj_session.specs.ReplyTexts.{accepted_line}
@@ -32,17 +32,14 @@ use Rattle.lj_cli.specs.Ends.{Input, Output}
 use Rattle.lj_cli.specs.ServeOutput.{rebuilt_line}
 use Rattle.lj_cli.specs.declared.status.TheConstants.{DONE}
 
--- the command offers these blocks of the cell. A file has a header, which announces as many
-abbrev pub OffersBlocks : Command → Triple → List (List ℕ) → Type 0
-OffersBlocks (Offered named body) c bs = (c ≡ named) × AreBlocksOf body c.v c.k bs
-OffersBlocks (UploadFile body) c bs =
-    (h : Header) × IsHeader body h × (c ≡ h.cell) × (h.n ≡ length bs) × AreBlocksOf (drop h.rest body) c.v c.k bs
-OffersBlocks command c bs = ⊥
-
--- the command is an upload of these blocks that is within the limits: its cell is in the frame, and neither the quota
--- of a client that holds as much before nor a limit of the check refuses it
+-- the command is an upload of these blocks that is within the limits: it offers a text that has them; the header of a
+-- file announces as many; the cell is in the frame; and neither the quota of a client that holds as much before nor a
+-- limit of the check refuses it
 pub record IsWithin (f : Top) (before : Held) (command : Command) (d : Covering) : Type 0 where
-  pub offers : OffersBlocks command d.cell d.blocks
+  pub text : List ℕ
+  pub offers : Offers command d.cell text
+  pub blocks : AreBlocksOf text d.cell.v d.cell.k d.blocks
+  pub announces : (body : List ℕ) (h : Header) → command ≡ UploadFile body → IsHeader body h → h.n ≡ length d.blocks
   pub inside : InFrame f d.cell
   pub admits : Admits before (length d.blocks)
   pub within : IsWithinLimits d.cell (length d.blocks)
@@ -72,7 +69,8 @@ service_of script name = serve_service script.frame (λ c. choose c.v c.t) scrip
 
 -- what the client of a section reads: one reply for each command, in which each number is founded on the uploads and
 -- none rises
-pub record IsTold (script : ScriptValue) (us : List Upload) (section : SectionValue) (e : SessionEnd) : Type 0 where
+pub record IsClientRead (script : ScriptValue) (us : List Upload) (section : SectionValue)
+    (e : SessionEnd) : Type 0 where
   pub end : Progress
   pub replies : AreReplies (service_of script section.name) section.commands no_progress e.replies end
   pub uploads : AcceptsCoverings (service_of script section.name)
@@ -87,7 +85,7 @@ pub record IsHeadline (script : ScriptValue) (json : Bool) (text : List ℕ) : T
   pub report : List ℕ
   pub rebuilt : Bool
   pub text_is : text ≡ sections_text script.clients ends ++ (report ++ rebuilt_line rebuilt)
-  pub clients : AllZip (IsTold script (uploads_of ends)) script.clients ends
+  pub clients : AllZip (IsClientRead script (uploads_of ends)) script.clients ends
   -- the script alone fixes the accepted uploads, and plans and blocks are of derivations from these
   pub accepted : AreAcceptedOfAll script.frame script.clients (uploads_of ends)
   pub sources : (u : Upload) → IsAcceptedIn script.frame script.clients u ↔ Contains (uploads_of ends) u

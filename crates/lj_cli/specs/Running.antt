@@ -20,6 +20,7 @@ pub record EndsServed (json : Bool) (i : Input) (o : Output) (ended : ℕ) : Typ
   pub ends : Ends (IsServeCommandOutput json) i o ended
   pub headline : HasHeadline json i o ended
 
+-- how the run of a command ends
 abbrev pub EndsAs : Call → Input → Output → ℕ → Type 0
 EndsAs (Check call) i o ended = Ends (IsCheckOutput call.cell) i o ended
 EndsAs (Build json) i o ended = Ends (IsBuildCommandOutput json) i o ended

@@ -11,13 +11,12 @@ ghost use Rattle.lj_session.specs.ReplyTexts.{numbers_line, settled_line};
 ghost use Rattle.lj_cli.specs.BigOutput.{IsBigCommandOutput, IsBigOutput, big_text};
 ghost use Rattle.lj_cli.specs.Ends.{EndsWithOutput, output_of};
 
-use crate::excess::put_line;
-use crate::prints::print;
+use crate::prints::{print, put_line};
 use crate::served::put_rebuilt;
 use crate::status::{DONE, NO_MEMORY};
 use lj_base::{Memory, Sink, choose_law};
 use lj_gate::{Gate, Served, serve};
-use lj_gen::{gen_script, quadruples_law};
+use lj_gen::{MAX_DIMENSION, MIN_DIMENSION, gen_script, quadruples_law};
 use lj_report::ReportCells;
 use lj_script::{Script, ScriptFault, read_script, script_law};
 use lj_session::{SessionEnd, one_outcome_law};
@@ -38,8 +37,8 @@ pub fn big_run<R: Threads + Wait + Sync, K: Sink, G: Gate + Sync>(
     out: &mut K,
     gate: &G,
 ) -> u8
-    requires low { 2 ≤ m }
-    requires high { m ≤ 6 }
+    requires low { MIN_DIMENSION ≤ m }
+    requires high { m ≤ MAX_DIMENSION }
     requires some_workers { 1 ≤ workers }
     requires few_workers { workers ≤ MAX_WORKERS }
     ensures { EndsWithOutput (IsBigCommandOutput m) (output_of K.written K.faults out.old out.new) result }
@@ -57,8 +56,8 @@ fn big_text<R: Threads + Wait + Sync, G: Gate + Sync>(
     workers: u64,
     gate: &G,
 ) -> Result<Vec<u8>, Memory>
-    requires low { 2 ≤ m }
-    requires high { m ≤ 6 }
+    requires low { MIN_DIMENSION ≤ m }
+    requires high { m ≤ MAX_DIMENSION }
     requires some_workers { 1 ≤ workers }
     requires few_workers { workers ≤ MAX_WORKERS }
     ensures { IfOk result (λ text. IsBigOutput m text.items) }
@@ -70,8 +69,8 @@ fn big_text<R: Threads + Wait + Sync, G: Gate + Sync>(
 
 // The script that the generated text spells.
 fn generated(alloc: Global, m: u64) -> Result<Script, Memory>
-    requires low { 2 ≤ m }
-    requires high { m ≤ 6 }
+    requires low { MIN_DIMENSION ≤ m }
+    requires high { m ≤ MAX_DIMENSION }
     ensures script { IfOk result (λ script. script ≡ gen_value m) }
     ensures blocks { IfOk result (λ _. AreBlocksOf (blocks_text (gen_blocks m)) (2 ^ m) 4 (gen_blocks m)) }
 {
@@ -86,10 +85,10 @@ fn generated(alloc: Global, m: u64) -> Result<Script, Memory>
 
 // The summary of a run that served the generated script.
 fn summary(alloc: Global, m: u64, served: &Served) -> Result<Vec<u8>, Memory>
-    requires low { 2 ≤ m }
-    requires high { m ≤ 6 }
+    requires low { MIN_DIMENSION ≤ m }
+    requires high { m ≤ MAX_DIMENSION }
     requires blocks { AreBlocksOf (blocks_text (gen_blocks m)) (2 ^ m) 4 (gen_blocks m) }
-    requires served { IsWholeServed (gen_value m) served.now.ends served.now.closed.table }
+    requires served { IsWholeServed (gen_value m) served.now.ends served.now.closed }
     ensures { IfOk result (λ text. IsBigOutput m text.items) }
 {
     one_outcome_law();

@@ -2,10 +2,10 @@ ghost use Rattle.std.specs.Prelude.{IfOk};
 ghost use Rattle.lj_cli.specs.BuildOutput.{IsBuildCommandOutput};
 ghost use Rattle.lj_cli.specs.Ends.{Ends, input_of, output_of};
 
-use crate::prints::{Made, end_early, print};
+use crate::prints::{Made, end_early, print_made};
 use crate::replies::built_text;
 use crate::script_faults::script_fault_line;
-use crate::status::{DONE, FAULTY, NO_MEMORY};
+use crate::status::{DONE, FAULTY};
 use lj_base::{MAX_INPUT, Memory, Sink, Source};
 use lj_script::{ScriptFault, read_script};
 use lj_text::read_all;
@@ -24,13 +24,9 @@ pub fn build_run<R: Threads + Sync, S: Source, K: Sink>(
     ensures { Ends (IsBuildCommandOutput json) (input_of S.left S.faults input.old input.new)
         (output_of K.written K.faults out.old out.new) result }
 {
-    let bytes = match read_all(alloc, input, MAX_INPUT) {
-        Ok(bytes) => bytes,
-        Err(fail) => return end_early(out, fail),
-    };
-    match build_output(rt, alloc, json, &bytes) {
-        Ok(made) => print(out, &made.text, made.status),
-        Err(Memory) => NO_MEMORY,
+    match read_all(alloc, input, MAX_INPUT) {
+        Ok(bytes) => print_made(out, build_output(rt, alloc, json, &bytes)),
+        Err(fail) => end_early(out, fail),
     }
 }
 

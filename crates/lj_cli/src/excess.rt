@@ -1,17 +1,17 @@
-ghost use Rattle.std.specs.Prelude.{◌≡◌, ◌<◌, ◌++◌, ◌≤◌, IfOk, OnOk, length};
+ghost use Rattle.std.specs.Prelude.{◌≡◌, ◌<◌, ◌≤◌, IfOk, length};
 ghost use Rattle.lj_base.specs.Colex.{choose};
-ghost use Rattle.lj_cli.specs.CountOutput.{IsExcessOutput, excess_text, number_line};
+ghost use Rattle.lj_cli.specs.CountOutput.{IsExcessOutput, excess_text};
 ghost use Rattle.lj_cli.specs.Ends.{Ends, input_of, output_of};
 ghost use Rattle.lj_excess.specs.Multiplicities.{tally_of};
 
 use crate::coverings::{ReadCovering, read_covering};
-use crate::prints::{Made, end_early, print};
-use crate::status::{DONE, NO_MEMORY};
+use crate::prints::{Made, end_early, print_made, put_line};
+use crate::status::DONE;
 use lj_base::{COST_LIMIT, Cell, MAX_BLOCKS, MAX_INPUT, Memory, Sink, Source, binom};
 use lj_cover::Design;
 use lj_excess::{CountFail, Counts, MAX_COUNTS};
 use lj_schonheim::schonheim;
-use lj_text::{put, put_named, read_all};
+use lj_text::read_all;
 use std::alloc::Global;
 use std::thread::Threads;
 
@@ -28,13 +28,9 @@ pub fn excess_run<R: Threads + Sync, S: Source, K: Sink>(
     ensures { Ends (IsExcessOutput cell) (input_of S.left S.faults input.old input.new)
         (output_of K.written K.faults out.old out.new) result }
 {
-    let bytes = match read_all(alloc, input, MAX_INPUT) {
-        Ok(bytes) => bytes,
-        Err(fail) => return end_early(out, fail),
-    };
-    match excess_output(rt, alloc, cell, &bytes) {
-        Ok(made) => print(out, &made.text, made.status),
-        Err(Memory) => NO_MEMORY,
+    match read_all(alloc, input, MAX_INPUT) {
+        Ok(bytes) => print_made(out, excess_output(rt, alloc, cell, &bytes)),
+        Err(fail) => end_early(out, fail),
     }
 }
 
@@ -100,12 +96,4 @@ fn block_sets(cell: Cell) -> u64
     ensures small { result < COST_LIMIT }
 {
     binom(cell.k as u64, cell.t as u64)
-}
-
-// Appends a word, a number and the end of the line.
-pub(crate) fn put_line(out: &mut Vec<u8>, word: &[u8], n: u64) -> Result<(), Memory>
-    ensures { OnOk result (out.new.items ≡ out.old.items ++ number_line word.now n) }
-{
-    put_named(out, word, &[n])?;
-    put(out, b"\n")
 }

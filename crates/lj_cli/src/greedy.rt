@@ -2,12 +2,11 @@ ghost use Rattle.std.specs.Prelude.{◌≤◌, IfOk};
 ghost use Rattle.lj_cli.specs.CountOutput.{IsGreedyOutput};
 ghost use Rattle.lj_cli.specs.Ends.{EndsWithOutput, output_of};
 
-use crate::prints::{Made, print};
-use crate::status::{DONE, FAULTY, NO_MEMORY};
+use crate::prints::{Made, print_made, put_line};
+use crate::status::{DONE, FAULTY};
 use lj_base::{Cell, Memory, Sink};
 use lj_blockfile::write_file;
 use lj_greedy::{GreedyFail, greedy};
-use lj_text::{put, put_named};
 use std::alloc::Global;
 
 /// Prints to `out` the greedy covering of the cell as a file with a header, or that it has too many sets. Returns the
@@ -16,10 +15,7 @@ pub fn greedy_run<K: Sink>(alloc: Global, cell: Cell, out: &mut K) -> u8
     requires { 1 ≤ cell.k }
     ensures { EndsWithOutput (IsGreedyOutput cell) (output_of K.written K.faults out.old out.new) result }
 {
-    match greedy_output(alloc, cell) {
-        Ok(made) => print(out, &made.text, made.status),
-        Err(Memory) => NO_MEMORY,
-    }
+    print_made(out, greedy_output(alloc, cell))
 }
 
 // The file of the greedy covering, or why there is none.
@@ -34,8 +30,7 @@ fn greedy_output(alloc: Global, cell: Cell) -> Result<Made, Memory>
             Ok(Made { text, status: DONE })
         }
         Err(GreedyFail::TSets { n }) => {
-            put_named(&mut text, b"fault tsets", &[n])?;
-            put(&mut text, b"\n")?;
+            put_line(&mut text, b"fault tsets", n)?;
             Ok(Made {
                 text,
                 status: FAULTY,

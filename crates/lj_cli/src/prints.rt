@@ -1,10 +1,12 @@
+ghost use Rattle.std.specs.Prelude.{◌≡◌, ◌++◌, MatchResult, OnOk};
 ghost use Rattle.lj_base.specs.declared.limits.TheConstants.{MAX_INPUT};
 ghost use Rattle.lj_text.specs.Inputs.{HasCause};
-ghost use Rattle.lj_cli.specs.Ends.{EndsEarly, Prints, output_of, too_large_text, usage_text};
+ghost use Rattle.lj_cli.specs.CountOutput.{number_line};
+ghost use Rattle.lj_cli.specs.Ends.{EndsEarly, Prints, PrintsNothing, output_of, too_large_text, usage_text};
 
 use crate::status::{BAD_WORDS, NO_MEMORY, READ_FAILED, TOO_LARGE, WRITE_FAILED};
-use lj_base::Sink;
-use lj_text::{ReadFail, write_all};
+use lj_base::{Memory, Sink};
+use lj_text::{ReadFail, put, put_named, write_all};
 
 // A text to print, and the status to end with.
 #[derive(Drop)]
@@ -20,6 +22,18 @@ pub(crate) fn print<K: Sink>(out: &mut K, text: &[u8], status: u8) -> u8
     match write_all(out, text) {
         Ok(()) => status,
         Err(_) => WRITE_FAILED,
+    }
+}
+
+// Prints what was made. Returns the status: that which belongs to it, that writing failed, or that memory ran out.
+pub(crate) fn print_made<K: Sink>(out: &mut K, made: Result<Made, Memory>) -> u8
+    ensures { MatchResult made
+        (λ m. Prints (output_of K.written K.faults out.old out.new) m.text.items m.status result)
+        (λ _. PrintsNothing (output_of K.written K.faults out.old out.new) result) }
+{
+    match made {
+        Ok(made) => print(out, &made.text, made.status),
+        Err(Memory) => NO_MEMORY,
     }
 }
 
@@ -51,4 +65,12 @@ pub(crate) fn print_usage<K: Sink>(out: &mut K) -> u8
         | big M --workers N | excess V K T | greedy V K T | reduce V K T\n",
         BAD_WORDS,
     )
+}
+
+// Appends a word, a number and the end of the line.
+pub(crate) fn put_line(out: &mut Vec<u8>, word: &[u8], n: u64) -> Result<(), Memory>
+    ensures { OnOk result (out.new.items ≡ out.old.items ++ number_line word.now n) }
+{
+    put_named(out, word, &[n])?;
+    put(out, b"\n")
 }

@@ -6,8 +6,8 @@ ghost use Rattle.lj_cli.specs.Ends.{Ends, input_of, output_of};
 ghost use Rattle.lj_greedy.specs.Reduced.{reduced};
 
 use crate::coverings::{ReadCovering, read_covering};
-use crate::prints::{Made, end_early, print};
-use crate::status::{DONE, NO_MEMORY};
+use crate::prints::{Made, end_early, print_made};
+use crate::status::DONE;
 use lj_base::{Cell, MAX_BLOCKS, MAX_INPUT, Memory, Sink, Source};
 use lj_blockfile::write_file;
 use lj_cover::Design;
@@ -30,13 +30,9 @@ pub fn reduce_run<R: Threads + Sync, S: Source, K: Sink>(
     ensures { Ends (IsReduceOutput cell) (input_of S.left S.faults input.old input.new)
         (output_of K.written K.faults out.old out.new) result }
 {
-    let bytes = match read_all(alloc, input, MAX_INPUT) {
-        Ok(bytes) => bytes,
-        Err(fail) => return end_early(out, fail),
-    };
-    match reduce_output(rt, alloc, cell, &bytes) {
-        Ok(made) => print(out, &made.text, made.status),
-        Err(Memory) => NO_MEMORY,
+    match read_all(alloc, input, MAX_INPUT) {
+        Ok(bytes) => print_made(out, reduce_output(rt, alloc, cell, &bytes)),
+        Err(fail) => end_early(out, fail),
     }
 }
 

@@ -1,7 +1,7 @@
-ghost use Rattle.std.specs.Prelude.{◌≡◌, ◌++◌, IfOk, OnOk, length, map};
+ghost use Rattle.std.specs.Prelude.{◌≡◌, ◌++◌, IfOk, List, OnOk, length, map};
 ghost use Rattle.lj_base.specs.Frames.{size_of};
-ghost use Rattle.lj_build.specs.Runs.{IsBuildOutput, client_line, report_of};
-ghost use Rattle.lj_cli.specs.BuildOutput.{replies_text};
+ghost use Rattle.lj_build.specs.Runs.{IsBuildOutput, client_line, report_of, sections_text};
+ghost use Rattle.lj_script.specs.Values.{SectionValue};
 
 use lj_base::{Frame, Memory};
 use lj_build::build;
@@ -42,13 +42,14 @@ pub(crate) fn client_names(alloc: Global, script: &Script) -> Result<Vec<Name>, 
     Ok(names)
 }
 
-// Appends for each client its line and its replies.
+// Appends for each client its line and its replies: the text of the sections that have these names.
 pub(crate) fn put_replies(
     out: &mut Vec<u8>,
     names: &[Name],
     ends: &[SessionEnd],
 ) -> Result<(), Memory>
-    ensures { OnOk result (out.new.items ≡ out.old.items ++ replies_text names.now ends.now) }
+    ensures { (sections : List SectionValue) → names.now ≡ map (λ s. s.name) sections →
+        OnOk result (out.new.items ≡ out.old.items ++ sections_text sections ends.now) }
 {
     for (name, end) in names.iter().zip(ends) {
         put_section(out, name.bytes(), end.replies.items())?;
@@ -83,8 +84,8 @@ pub(crate) fn put_bounds(
         (out.new.items ≡ out.old.items ++ report_of table.now.arena.frame json table.now.bounds) }
     ensures count { length table.now.bounds ≡ size_of table.now.arena.frame }
 {
-    let bounds = bounds_of(alloc, table)?;
-    put_report(alloc, out, json, table.frame(), &bounds)
+    let bounds = table.bounds();
+    put_report(alloc, out, json, table.frame(), bounds)
 }
 
 // Appends the report of bounds, as text or as JSON.
@@ -103,17 +104,4 @@ fn put_report(
     } else {
         report_text(frame, bounds, out)
     }
-}
-
-// The bounds of a table, in the order of its frame's index.
-fn bounds_of(alloc: Global, table: &Table) -> Result<Vec<u64>, Memory>
-    ensures bounds { IfOk result (λ bounds. bounds.items ≡ table.now.bounds) }
-    ensures count { length table.now.bounds ≡ size_of table.now.arena.frame }
-{
-    let frame = table.frame();
-    let mut bounds = Vec::new(alloc);
-    for i in 0..frame.size() {
-        bounds.push(table.bound(frame.cell(i)))?;
-    }
-    Ok(bounds)
 }

@@ -3,11 +3,11 @@ ghost use Rattle.lj_cli.specs.Ends.{Ends, input_of, output_of};
 ghost use Rattle.lj_cli.specs.Headline.{HasHeadline};
 ghost use Rattle.lj_cli.specs.ServeOutput.{IsServeCommandOutput};
 
-use crate::prints::{Made, end_early, print};
+use crate::prints::{Made, end_early, print_made};
 use crate::script_faults::script_fault_line;
 use crate::serve_laws::headline_law;
 use crate::served::served_text;
-use crate::status::{DONE, FAULTY, NO_MEMORY};
+use crate::status::{DONE, FAULTY};
 use lj_base::{MAX_INPUT, Memory, Sink, Source};
 use lj_gate::Gate;
 use lj_script::{ScriptFault, read_script};
@@ -56,13 +56,9 @@ fn serve_input<R: Threads + Wait + Sync, S: Source, K: Sink, G: Gate + Sync>(
     ensures { Ends (IsServeCommandOutput json) (input_of S.left S.faults input.old input.new)
         (output_of K.written K.faults out.old out.new) result }
 {
-    let bytes = match read_all(alloc, input, MAX_INPUT) {
-        Ok(bytes) => bytes,
-        Err(fail) => return end_early(out, fail),
-    };
-    match serve_output(rt, alloc, workers, json, &bytes, gate) {
-        Ok(made) => print(out, &made.text, made.status),
-        Err(Memory) => NO_MEMORY,
+    match read_all(alloc, input, MAX_INPUT) {
+        Ok(bytes) => print_made(out, serve_output(rt, alloc, workers, json, &bytes, gate)),
+        Err(fail) => end_early(out, fail),
     }
 }
 

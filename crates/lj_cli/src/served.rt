@@ -1,7 +1,7 @@
 ghost use Rattle.std.specs.Prelude.{◌≡◌, ◌++◌, ◌≤◌, IfOk, OnOk};
 ghost use Rattle.lj_cli.specs.ServeOutput.{IsServeOutput, rebuilt_line};
 
-use crate::excess::put_line;
+use crate::prints::put_line;
 use crate::replies::{client_names, put_bounds, put_replies};
 use lj_base::Memory;
 use lj_build::one_report_law;

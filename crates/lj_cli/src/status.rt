@@ -3,13 +3,13 @@
 /// A command did what it was called for; of a check, the blocks cover.
 pub const DONE: u8 = 0;
 
-/// A check found a set that no block contains.
+/// Some set is in no block of the input.
 pub const UNCOVERED: u8 = 1;
 
 /// The words call for no command.
 pub const BAD_WORDS: u8 = 2;
 
-/// The input has a fault.
+/// The input has a fault, or the cell has too many sets.
 pub const FAULTY: u8 = 3;
 
 /// Reading failed.
@@ -24,5 +24,5 @@ pub const TOO_LARGE: u8 = 6;
 /// Memory ran out.
 pub const NO_MEMORY: u8 = 7;
 
-/// The system did not give the words, or one of them is no text.
+/// The system did not give the words, one of them is no text, or memory ran out while they were read.
 pub const NO_WORDS: u8 = 8;

@@ -4,6 +4,7 @@ ghost use Rattle.lj_cli.specs.GoodWords.{IsServeCall, texts};
 
 use crate::given::{Given, read_given};
 use lj_base::Cell;
+use lj_gen::{MAX_DIMENSION, MIN_DIMENSION};
 use lj_verify::MAX_WORKERS;
 
 /// A check whether the blocks of the input cover the cell, by a number of threads.
@@ -164,7 +165,7 @@ fn gen_call(given: &Given) -> Option<u64>
     let [m] = given.numbers() else {
         return None;
     };
-    if 2 <= *m && *m <= 6 && given.workers().is_none() && !given.json() {
+    if MIN_DIMENSION <= *m && *m <= MAX_DIMENSION && given.workers().is_none() && !given.json() {
         Some(*m)
     } else {
         None
@@ -181,7 +182,12 @@ fn big_call(given: &Given) -> Option<BigCall>
     };
     let m = *m;
     let workers = given.workers()?;
-    if 2 <= m && m <= 6 && 1 <= workers && workers <= MAX_WORKERS && !given.json() {
+    if MIN_DIMENSION <= m
+        && m <= MAX_DIMENSION
+        && 1 <= workers
+        && workers <= MAX_WORKERS
+        && !given.json()
+    {
         Some(BigCall { m, workers })
     } else {
         None

@@ -1,5 +1,5 @@
 -- The ends of all sections of a script, whose passes had seen no number above that of the sets of its cell.
-use Rattle.std.proofs.Common.{◌≡◌, ℕ, ◌*◌, ◌<◌, ◌≤◌, List, [], ◌∷◌, length, map, refl, ap, subst, arith}
+use Rattle.std.proofs.Common.{◌≡◌, ℕ, true, ◌*◌, ◌<◌, ◌≤◌, List, [], ◌∷◌, length, map, refl, ap, subst, arith}
 use Rattle.std.proofs.lemmas.List.{length-append, length-map}
 use Rattle.std.proofs.lemmas.List.Elements.{Contains-append_right}
 use Rattle.std.specs.List.{AllByRecursion, Contains}
@@ -9,6 +9,7 @@ use Rattle.lj_base.specs.Frames.{InFrame, Top}
 use Rattle.lj_board.specs.Seen.{BoardView, PassView, seen_of}
 use Rattle.lj_build.specs.Closing.{IsClosed}
 use Rattle.lj_build.specs.Runs.{uploads_of}
+use Rattle.lj_build.specs.declared.closing.Closed.{Closed}
 use Rattle.lj_deriv.specs.declared.limits.TheConstants.{MAX_ARENA_UPLOADS}
 use Rattle.lj_script.specs.Values.{ScriptValue, SectionValue}
 use Rattle.lj_script.specs.declared.limits.TheConstants.{MAX_CLIENTS}
@@ -19,7 +20,6 @@ use Rattle.lj_session.specs.declared.ends.SessionEnd.{SessionEnd}
 use Rattle.lj_upload.specs.declared.quotas.TheConstants.{QUOTA_UPLOADS}
 use Rattle.lj_gate.specs.Ends.{AreServed, IsOfRun}
 use Rattle.lj_gate.specs.Whole.{AreServedOf, IsSmall, IsWholeServed}
-use Rattle.lj_table.specs.Tables.{Contents}
 
 -- replies below a limit that is no greater than the number of sets are those of `serve`
 abbrev pub Raises : Top → List SectionValue → Type 0
@@ -104,11 +104,12 @@ few_whole f all sections g ss passes ends same few served =
       length-map sections (new_session g),
     )
 
-pub whole_of : (script : ScriptValue) (ends mine : List SessionEnd) (t : Contents)
-    → AreServedOf script.frame script.clients script.clients ends → IsClosed script.frame (uploads_of ends) t
-    → mine ≡ ends → IsWholeServed script mine t
-whole_of script ends mine t served closed same = rw same (record {
+pub whole_of : (script : ScriptValue) (ends mine : List SessionEnd) (c : Closed)
+    → AreServedOf script.frame script.clients script.clients ends → IsClosed script.frame (uploads_of ends) c.table
+    → (c.rebuilt ≡ true → c.table.arena.uploads ≡ uploads_of ends) → mine ≡ ends → IsWholeServed script mine c
+whole_of script ends mine c served closed anew same = rw same (record {
   served = served;
   accepted = accepted_of script.frame script.clients script.clients ends served;
   closed = closed;
+  anew = anew;
 })

@@ -29,7 +29,7 @@ IsStarted f sections j (ClientHere c) = IsClient f sections j.session j.pass c
 abbrev pub AreStarted : {S : Type 0} → Top → List SectionValue → List Job → List (Started S) → Type 0
 AreStarted f sections js ss = AllZip (IsStarted f sections) js ss
 
--- the pass that was handed to the thread is of the board, or the one that ran here left it so
+-- the client's thread was handed a pass of the board, or the client that ran here left one
 abbrev pub IsOnBoard : {S : Type 0} → BoardView → Started S → Type 0
 IsOnBoard b (ClientThere h) = h.promise.job.value.pass.board ≡ b
 IsOnBoard b (ClientHere c) = c.pass.board ≡ b
@@ -56,7 +56,7 @@ abbrev pub IsWorking : {S : Type 0} → Top → PassView → Working S → Type 
 IsWorking f p (There h) = h.promise.pass.value ≡ p
 IsWorking f p (Here w) = IsWorker f p w
 
--- the pass that was handed to the thread is of the board, or the one that ran here left it so
+-- the worker's thread was handed a pass of the board, or the worker that ran here left one
 abbrev pub WorksOnBoard : {S : Type 0} → BoardView → Working S → Type 0
 WorksOnBoard b (There h) = h.promise.pass.value.board ≡ b
 WorksOnBoard b (Here w) = w.pass.board ≡ b

@@ -1,4 +1,4 @@
-ghost use Rattle.std.specs.Prelude.{◌≡◌, ◌<◌, ◌≤◌, IfOk, length, map};
+ghost use Rattle.std.specs.Prelude.{◌≡◌, ◌<◌, ◌≤◌, IfOk, length, map, true};
 ghost use Rattle.std.specs.List.{AllByRecursion};
 ghost use Rattle.lj_base.specs.Frames.{InFrame};
 ghost use Rattle.lj_build.specs.Closing.{IsClosed};
@@ -42,7 +42,7 @@ pub fn serve<R: Threads + Wait + Sync, G: Gate + Sync>(
 ) -> Result<Served, Memory>
     requires some_workers { 1 ≤ workers }
     requires few_workers { workers ≤ MAX_WORKERS }
-    ensures { IfOk result (λ served. IsWholeServed script served.ends served.closed.table) }
+    ensures { IfOk result (λ served. IsWholeServed script served.ends served.closed) }
 {
     serve_named::<Brand, R, G>(rt, alloc, script, workers, gate)
 }
@@ -59,7 +59,7 @@ fn serve_named<S: Serving + Send + Sync, R: Threads + Wait + Sync, G: Gate + Syn
     requires sections { S.sections ≡ script.clients }
     requires some_workers { 1 ≤ workers }
     requires few_workers { workers ≤ MAX_WORKERS }
-    ensures { IfOk result (λ served. IsWholeServed script served.ends served.closed.table) }
+    ensures { IfOk result (λ served. IsWholeServed script served.ends served.closed) }
 {
     accepted_law();
     limits_law();
@@ -78,8 +78,8 @@ fn serve_named<S: Serving + Send + Sync, R: Threads + Wait + Sync, G: Gate + Syn
 fn close_run(alloc: Global, frame: Frame, table: Table, ends: Ends) -> Result<Served, Memory>
     requires inside { AllByRecursion (λ u. InFrame frame u.cell) (uploads_of ends) }
     requires few { length (uploads_of ends) < MAX_ARENA_UPLOADS }
-    ensures { IfOk result (λ served. (served.ends ≡ ends)
-        × IsClosed frame (uploads_of ends) served.closed.table) }
+    ensures { IfOk result (λ served. (served.ends ≡ ends) × IsClosed frame (uploads_of ends) served.closed.table
+        × (served.closed.rebuilt ≡ true → served.closed.table.arena.uploads ≡ uploads_of ends)) }
 {
     let closed = close(alloc, frame, table, ends.items())?;
     Ok(Served { ends, closed })

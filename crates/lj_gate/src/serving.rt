@@ -13,6 +13,7 @@ pub trait Serving {
     ghost sections: { List SectionValue };
 }
 
+// A call at `Brand` chooses the members in its proof, and so names a run of any script, whatever they are here.
 impl Serving for Brand {
     ghost use Rattle.std.specs.Prelude.{[]};
 

@@ -54,8 +54,8 @@ returns c =
     let count = c.upload_size-blocks.ensures _ session.accepted in
     let left = c.after_first-lines.ensures
     ∙ ap (λ (x : List ℕ). drop (length c.deref.result.now) x) c.items-2.ensures in
-    summed m c.upload_size-blocks.result c.args.served.now.ends c.items.result.now e c.args.served.now.closed.table
+    summed m c.upload_size-blocks.result c.args.served.now.ends c.items.result.now e c.args.served.now.closed
     c.deref.result.now c.after_first-lines.result.now c.in_ok-text.text.items c.totals_of-totals.result.cells
-    c.totals_of-totals.result.sum c.args.served.now.closed.rebuilt session c.requires.served c.items.ensures
+    c.totals_of-totals.result.sum session c.requires.served c.items.ensures
     c.only_end-end.ensures count (c.deref.ensures.value ∙ c.in_ok-first.ensures) left
     c.totals_of-totals.ensures.cells c.totals_of-totals.ensures.sum c.in_ok-text.ensures

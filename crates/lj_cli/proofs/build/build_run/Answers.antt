@@ -1,22 +1,12 @@
-use Rattle.std.proofs.Common.{inl, subst, sym}
 use Rattle.lj_cli.specs.BuildOutput.{IsBuildCommandOutput}
+use Rattle.lj_cli.specs.Ends.{input_of, output_of}
+use Rattle.lj_cli.proofs.Ending.{made_ends}
 use Rattle.lj_cli.proofs.build.build_run.Goals as goal
 
-pub returns-in-Ok-build_output : goal.returns-in-Ok-build_output
-returns-in-Ok-build_output g c =
-    let json = c.args.json in
-    let made = c.in-Ok-build_output.made in
-    let read = subst (λ bytes. IsBuildCommandOutput json bytes made.text.items made.status) c.deref.ensures.value
-    c.in-Ok-build_output.ensures in
-    let belongs = subst (λ text. IsBuildCommandOutput json c.in-Ok.bytes.items text made.status)
-    (sym c.deref-in-Ok-build_output.ensures.value) read in
-    inl (record {
-      bytes = c.in-Ok.bytes.items;
-      text = c.deref-in-Ok-build_output.result.now;
-      status = made.status;
-      belongs = belongs;
-      printed = c.print.ensures;
-      read = c.in-Ok.ensures.read;
-      at_end = c.in-Ok.ensures.whole;
-      no_fault = c.in-Ok.ensures.quiet;
-    })
+pub returns-in-Ok : goal.returns-in-Ok
+returns-in-Ok g c =
+    made_ends (IsBuildCommandOutput c.args.json)
+    (input_of g.S.Source.left g.S.Source.faults c.args.input.now c.read_all.new.source)
+    (output_of g.K.Sink.written g.K.Sink.faults c.args.out.now c.print_made.new.out) c.in-Ok.bytes.items
+    c.deref.result.now c.print_made.result c.build_output.result c.deref.ensures.value c.build_output.ensures
+    c.print_made.ensures c.in-Ok.ensures.read c.in-Ok.ensures.whole c.in-Ok.ensures.quiet

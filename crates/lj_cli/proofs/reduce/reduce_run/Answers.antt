@@ -1,22 +1,12 @@
-use Rattle.std.proofs.Common.{inl, subst, sym}
 use Rattle.lj_cli.specs.CountOutput.{IsReduceOutput}
+use Rattle.lj_cli.specs.Ends.{input_of, output_of}
+use Rattle.lj_cli.proofs.Ending.{made_ends}
 use Rattle.lj_cli.proofs.reduce.reduce_run.Goals as goal
 
-pub returns-in-Ok-reduce_output : goal.returns-in-Ok-reduce_output
-returns-in-Ok-reduce_output g c =
-    let cell = c.args.cell in
-    let made = c.in-Ok-reduce_output.made in
-    let read = subst (λ bytes. IsReduceOutput cell bytes made.text.items made.status) c.deref.ensures.value
-    c.in-Ok-reduce_output.ensures in
-    let belongs = subst (λ text. IsReduceOutput cell c.in-Ok.bytes.items text made.status)
-    (sym c.deref-in-Ok-reduce_output.ensures.value) read in
-    inl (record {
-      bytes = c.in-Ok.bytes.items;
-      text = c.deref-in-Ok-reduce_output.result.now;
-      status = made.status;
-      belongs = belongs;
-      printed = c.print.ensures;
-      read = c.in-Ok.ensures.read;
-      at_end = c.in-Ok.ensures.whole;
-      no_fault = c.in-Ok.ensures.quiet;
-    })
+pub returns-in-Ok : goal.returns-in-Ok
+returns-in-Ok g c =
+    made_ends (IsReduceOutput c.args.cell)
+    (input_of g.S.Source.left g.S.Source.faults c.args.input.now c.read_all.new.source)
+    (output_of g.K.Sink.written g.K.Sink.faults c.args.out.now c.print_made.new.out) c.in-Ok.bytes.items
+    c.deref.result.now c.print_made.result c.reduce_output.result c.deref.ensures.value c.reduce_output.ensures
+    c.print_made.ensures c.in-Ok.ensures.read c.in-Ok.ensures.whole c.in-Ok.ensures.quiet

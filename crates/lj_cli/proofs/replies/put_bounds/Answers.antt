@@ -6,12 +6,11 @@ use Rattle.lj_cli.proofs.replies.put_bounds.Goals as goal
 
 pub put_report-requires : goal.put_report-requires
 put_report-requires c =
-    let bounds = c.deref.ensures.value ∙ c.in_ok-bounds.ensures.bounds in
-    ap length bounds ∙ c.bounds_of.ensures.count ∙ sym (ap (λ (f : Top). size_of f) c.frame.ensures.frame)
+    ap length c.bounds-bounds.ensures.bounds ∙ c.bounds-bounds.ensures.table.lists.bounds
+    ∙ sym (ap (λ (f : Top). size_of f) c.frame.ensures.frame)
 
 pub returns-clause-report : goal.returns-clause-report
 returns-clause-report c =
-    let bounds = c.deref.ensures.value ∙ c.in_ok-bounds.ensures.bounds in
     on_ok_weaker c.put_report.result (λ put. put
-    ∙ ap₂ (λ (f : Top) (ns : List ℕ). c.args.out.now.items ++ report_of f c.args.json ns) c.frame.ensures.frame bounds)
-    c.put_report.ensures
+    ∙ ap₂ (λ (f : Top) (ns : List ℕ). c.args.out.now.items ++ report_of f c.args.json ns) c.frame.ensures.frame
+    c.bounds-bounds.ensures.bounds) c.put_report.ensures

@@ -15,10 +15,10 @@ loop-name-preserved c =
     (c.in-Some.name, c.in-Some.end) c.in-Some.is c.next.ensures.steps in
     let put = c.in_ok-put_section.ensures
     ∙ ap₂ (λ (name replies : List ℕ). before ++ (client_line name ++ replies)) c.bytes.ensures.bytes c.items.ensures in
-    rw (length_push c.loop-name.yielded (c.in-Some.name, c.in-Some.end))
-    (replies_more c.args.names.now c.args.ends.now _ c.in-Some.name.now c.in-Some.end.now before
-    c.put_section.new.out.items _ turn.0 turn.1 (turn.2 c.in-Some.name.now) (turn.3 c.in-Some.end.now)
-    c.loop-name.invariant put)
+    λ sections are. rw (length_push c.loop-name.yielded (c.in-Some.name, c.in-Some.end))
+    (replies_more sections c.args.names.now c.args.ends.now _ c.in-Some.name.now c.in-Some.end.now before
+    c.put_section.new.out.items _ are turn.0 turn.1 (turn.2 c.in-Some.name.now) (turn.3 c.in-Some.end.now)
+    (c.loop-name.invariant sections are) put)
 
 pub returns : goal.returns
 returns c =
@@ -27,4 +27,5 @@ returns c =
     (cc (c.iter.ensures.rest, c.zip-name-items.ensures.first, c.into_iter-name-iterator.ensures.into_iter_gives))
     (cc (c.zip-name-items.ensures.second.0, c.into_iter-name-iterator.ensures.into_iter_gives)) c.loop-name.yielded_by
     c.in-None.is c.next.ensures.steps in
-    replies_done c.args.names.now c.args.ends.now _ c.loop-name.out.items _ end c.loop-name.invariant
+    λ sections are. replies_done sections c.args.names.now c.args.ends.now _ c.loop-name.out.items _ are end
+    (c.loop-name.invariant sections are)

@@ -1,8 +1,10 @@
-use Rattle.std.proofs.Common.{◌≡◌, ◌++◌, drop, length}
-use Rattle.lj_cli.specs.BuildOutput.{replies_text}
+use Rattle.std.proofs.Common.{◌≡◌, ◌++◌, List, drop, length}
+use Rattle.lj_build.specs.Runs.{sections_text}
+use Rattle.lj_script.specs.Values.{SectionValue}
+use Rattle.lj_cli.proofs.Building.{names_of}
 use Rattle.lj_cli.proofs.replies.put_replies.Given as goal
 
 abbrev pub invariant-loop-name : goal.invariant-loop-name
-invariant-loop-name l =
-    l.out.items ++ replies_text (drop (length l.yielded) l.names) (drop (length l.yielded) l.ends)
-    ≡ l.fn.out.items ++ replies_text l.names l.ends
+invariant-loop-name l = (sections : List SectionValue) → l.names ≡ names_of sections
+    → l.out.items ++ sections_text (drop (length l.yielded) sections) (drop (length l.yielded) l.ends)
+    ≡ l.fn.out.items ++ sections_text sections l.ends

@@ -1,4 +1,4 @@
-use Rattle.std.proofs.Common.{◌≡◌, List, map, ap, sym, ◌∙◌}
+use Rattle.std.proofs.Common.{◌≡◌, List, true, map, ap, sym, ◌∙◌}
 use Rattle.std.proofs.lemmas.Result.{IfOk-weaker}
 use Rattle.lj_base.specs.Colex.{choose}
 use Rattle.lj_base.specs.Frames.{Top}
@@ -70,6 +70,7 @@ returns g c =
     (λ low section text small below. c.limits_law.ensures f low (λ d. choose d.v d.t) clients section text small below)
     c.in_ok-passes.ensures.passes c.in_ok-ends.ensures.ends in
     rw (← c.script.view_is) (IfOk-weaker c.close_run.result
-    (λ (x : Served). (x.ends ≡ ends) × IsClosed f (uploads_of ends) x.closed.table)
-    (λ (x : Served). IsWholeServed script x.ends x.closed.table)
-    (λ x k. whole_of script ends x.ends x.closed.table served k.1 k.0) c.close_run.ensures)
+    (λ (x : Served). (x.ends ≡ ends) × IsClosed f (uploads_of ends) x.closed.table
+    × (x.closed.rebuilt ≡ true → x.closed.table.arena.uploads ≡ uploads_of ends))
+    (λ (x : Served). IsWholeServed script x.ends x.closed)
+    (λ x k. whole_of script ends x.ends x.closed served k.1 k.2 k.0) c.close_run.ensures)
