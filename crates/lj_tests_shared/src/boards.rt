@@ -105,6 +105,17 @@ fn has_risen_in_two<R: Threads + Sync>(
     a || b
 }
 
+// Whether the words have fallen to the bounds of a table at rest with the four triples.
+fn sees_least(board: &Board<EveryUpload>, pass: &mut Pass) -> bool
+    requires { pass.old.board ≡ board.now }
+{
+    let four = pass.peek(board, cell_of(4));
+    let five = pass.peek(board, cell_of(5));
+    let six = pass.peek(board, cell_of(6));
+    let seven = pass.peek(board, cell_of(7));
+    [four, five, six, seven] == [3, 4, 7, 9]
+}
+
 #[test]
 fn four_threads_see_no_number_rise(rt: HostRuntime) -> Result<(), Fail> {
     let alloc = rt.alloc();
@@ -115,6 +126,7 @@ fn four_threads_see_no_number_rise(rt: HostRuntime) -> Result<(), Fail> {
     low.settle(alloc)?;
     high.accept(five(alloc)?)?;
     let (q, r, s) = (p.split(board), p.split(board), p.split(board));
+    let mut last = p.split(board);
     let (low, high) = (&low, &high);
     let (a, b) = join(
         &rt,
@@ -122,5 +134,6 @@ fn four_threads_see_no_number_rise(rt: HostRuntime) -> Result<(), Fail> {
         || has_risen_in_two(&rt, board, (r, s), low, high, 2),
     );
     assert!(rt; !a && !b);
+    assert!(rt; sees_least(board, &mut last));
     Ok(())
 }

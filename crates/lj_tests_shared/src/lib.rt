@@ -1,5 +1,4 @@
-//! Tests of the board and of the shared table: worked values from outside, and threads that read, lower and work at
-//! once.
+//! Tests of the board and of the shared table: worked values from outside, and threads that read and lower at once.
 #![tactic(auto)]
 
 #[cfg(test)]
