@@ -7,7 +7,7 @@ use Rattle.lj_base.specs.Colex.{choose}
 use Rattle.lj_blockfile.specs.BlockFiles.{AreBlocksOf, IsBodyFault, IsInputFault}
 use Rattle.lj_blockfile.specs.Headers.{file_text}
 use Rattle.lj_cover.specs.Lower.{schonheim}
-use Rattle.lj_excess.specs.Multiplicities.{excess_in, most_in, multiplicities, once_in}
+use Rattle.lj_excess.specs.Multiplicities.{excess_in, most_in, multiplicities, once_in, tally_of}
 use Rattle.lj_excess.specs.declared.limits.TheConstants.{MAX_COUNTS}
 use Rattle.lj_greedy.specs.Greedy.{greedy_list}
 use Rattle.lj_greedy.specs.Reduced.{IsSublist, reduced}
@@ -48,9 +48,10 @@ pub record IsCovering (c : Triple) (bytes : List ℕ) (bs : List (List ℕ)) : T
   pub within : IsWithinLimits c (length bs)
   pub covers : Covers bs c
 
--- what is read of the bytes
+-- what is read of the bytes; the counts are those of the blocks
 abbrev pub IsReadCovering : Triple → List ℕ → ReadCovering → Type 0
-IsReadCovering c bytes (Covering design) = (design.cell ≡ c) × IsCovering c bytes design.blocks
+IsReadCovering c bytes (Covering design counts) =
+    (design.cell ≡ c) × IsCovering c bytes design.blocks × (counts ≡ tally_of design.blocks c)
 IsReadCovering c bytes (NoCovering verdict) = IsNoCovering c bytes verdict
 
 -- the text and the status of bytes that are no such covering

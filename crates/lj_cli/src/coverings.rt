@@ -6,27 +6,23 @@ use crate::verdicts::Verdict;
 use lj_base::{Cell, Memory, binom};
 use lj_blockfile::{BodyFault, read_blocks};
 use lj_cover::Design;
-use lj_excess::MAX_COUNTS;
-use lj_verify::{Refusal, check};
+use lj_excess::{Counted, Counts, MAX_COUNTS, check_counted};
+use lj_verify::Refusal;
 use std::alloc::Global;
-use std::thread::Threads;
 
 // What is read of an input whose sets are to be counted.
 #[derive(Debug, Drop)]
 pub(crate) enum ReadCovering {
-    /// Its blocks cover within the limits of a check, and there are few enough sets.
-    Covering { design: Design },
+    /// Its blocks cover within the limits of a check, and there are few enough sets. The counts are those of its
+    /// blocks.
+    Covering { design: Design, counts: Counts },
     /// They do not, and this holds of them.
     NoCovering { verdict: Verdict },
 }
 
-// The blocks of an input, where there are few enough sets and the blocks cover within the limits of a check.
-pub(crate) fn read_covering<R: Threads + Sync>(
-    rt: &R,
-    alloc: Global,
-    cell: Cell,
-    bytes: &[u8],
-) -> Result<ReadCovering, Memory>
+// The blocks of an input and their counts, where there are few enough sets and the blocks cover within the limits of a
+// check. The counts say it, so that no marks are made.
+pub(crate) fn read_covering(alloc: Global, cell: Cell, bytes: &[u8]) -> Result<ReadCovering, Memory>
     requires { 1 ≤ cell.k }
     ensures { IfOk result (IsReadCovering cell bytes.now) }
 {
@@ -41,8 +37,8 @@ pub(crate) fn read_covering<R: Threads + Sync>(
             refusal: Refusal::TSets { n },
         }));
     }
-    match check(rt, alloc, cell, blocks, 1) {
-        Ok(design) => Ok(ReadCovering::Covering { design }),
+    match check_counted(alloc, cell, blocks) {
+        Ok(Counted { design, counts }) => Ok(ReadCovering::Covering { design, counts }),
         Err(Refusal::Memory) => Err(Memory),
         Err(refusal) => Ok(no_covering(Verdict::Refused { refusal })),
     }

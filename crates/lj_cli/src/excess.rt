@@ -9,7 +9,7 @@ use crate::prints::{Made, end_early, print_made, put_line};
 use crate::status::DONE;
 use lj_base::{COST_LIMIT, Cell, MAX_BLOCKS, MAX_INPUT, Memory, Sink, Source, binom};
 use lj_cover::Design;
-use lj_excess::{CountFail, Counts, MAX_COUNTS};
+use lj_excess::Counts;
 use lj_schonheim::schonheim;
 use lj_text::read_all;
 use std::alloc::Global;
@@ -29,41 +29,35 @@ pub fn excess_run<R: Threads + Sync, S: Source, K: Sink>(
         (output_of K.written K.faults out.old out.new) result }
 {
     match read_all(alloc, input, MAX_INPUT) {
-        Ok(bytes) => print_made(out, excess_output(rt, alloc, cell, &bytes)),
+        Ok(bytes) => print_made(out, excess_output(alloc, cell, &bytes)),
         Err(fail) => end_early(out, fail),
     }
 }
 
 // What the bytes of a covering come to, or why they are none.
-fn excess_output<R: Threads + Sync>(
-    rt: &R,
-    alloc: Global,
-    cell: Cell,
-    bytes: &[u8],
-) -> Result<Made, Memory>
+fn excess_output(alloc: Global, cell: Cell, bytes: &[u8]) -> Result<Made, Memory>
     requires { 1 ≤ cell.k }
     ensures { IfOk result (λ made. IsExcessOutput cell bytes.now made.text.items made.status) }
 {
-    match read_covering(rt, alloc, cell, bytes)? {
+    match read_covering(alloc, cell, bytes)? {
         ReadCovering::NoCovering { verdict } => {
             let text = verdict.text(alloc)?;
             let status = verdict.status();
             Ok(Made { text, status })
         }
-        ReadCovering::Covering { design } => {
-            let text = sums_text(alloc, &design)?;
+        ReadCovering::Covering { design, counts } => {
+            let text = sums_text(alloc, &design, &counts)?;
             Ok(Made { text, status: DONE })
         }
     }
 }
 
-// The lines of a covering's sums.
-fn sums_text(alloc: Global, design: &Design) -> Result<Vec<u8>, Memory>
-    requires few { choose design.now.cell.v design.now.cell.t ≤ MAX_COUNTS }
+// The lines of a covering's sums, from its counts.
+fn sums_text(alloc: Global, design: &Design, counts: &Counts) -> Result<Vec<u8>, Memory>
+    requires counted { counts.now ≡ tally_of design.now.blocks design.now.cell }
     requires short { length design.now.blocks ≤ MAX_BLOCKS }
     ensures { IfOk result (λ text. text.items ≡ excess_text design.now.cell design.now.blocks) }
 {
-    let counts = counts_of(alloc, design)?;
     let cell = design.cell();
     let blocks = design.blocks().len() as u64;
     let mut text = Vec::new(alloc);
@@ -75,19 +69,6 @@ fn sums_text(alloc: Global, design: &Design) -> Result<Vec<u8>, Memory>
     put_line(&mut text, b"once", counts.once())?;
     put_line(&mut text, b"most", u64::from(counts.most()))?;
     Ok(text)
-}
-
-// The counts of a covering with few enough sets.
-fn counts_of(alloc: Global, design: &Design) -> Result<Counts, Memory>
-    requires few { choose design.now.cell.v design.now.cell.t ≤ MAX_COUNTS }
-    requires short { length design.now.blocks ≤ MAX_BLOCKS }
-    ensures { IfOk result (λ counts. counts ≡ tally_of design.now.blocks design.now.cell) }
-{
-    match Counts::of(alloc, design) {
-        Ok(counts) => Ok(counts),
-        Err(CountFail::Memory) => Err(Memory),
-        Err(CountFail::TSets { .. }) => unreachable!(),
-    }
 }
 
 // The number of sets of a block.
