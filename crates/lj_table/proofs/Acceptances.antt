@@ -1,9 +1,12 @@
 -- A table after an acceptance.
 use Rattle.std.proofs.Common.{◌≡◌, ◌↔◌, ◌⊎◌, ℕ, ◌<◌, ◌≤◌, true, false, not, ◌&&◌, List, [], ◌∷◌, ◌++◌, length, get_or}
-use Rattle.std.proofs.Common.{refl, sym, ap, ◌∙◌, subst, inl, inr, ⊎_elim}
+use Rattle.std.proofs.Common.{Option, Result, Ok, Err}
+use Rattle.std.proofs.Common.{refl, sym, ap, ◌∙◌, subst, arith, inl, inr, ⊎_elim}
 use Rattle.std.proofs.Math.Seq.{get_or-append_seam}
 use Rattle.std.proofs.lemmas.List.Elements.{All-weaker}
 use Rattle.std.specs.List.{All}
+use Rattle.std.specs.Option.{IfSome}
+use Rattle.std.specs.Result.{OnErr, OnOk}
 use Rattle.lj_base.specs.Bounds.{at_cell}
 use Rattle.lj_base.specs.Cells.{Triple}
 use Rattle.lj_base.specs.Frames.{InFrame, index_of}
@@ -15,10 +18,14 @@ use Rattle.lj_relax.specs.States.{Good, State}
 use Rattle.lj_relax.specs.Steps.{Accepts, IsLesser}
 use Rattle.lj_relax.specs.Tickets.{TicketLists}
 use Rattle.lj_table.specs.Accepting.{IsTakenIn, ReadsFallen}
+use Rattle.lj_table.specs.Settling.{HasRested}
 use Rattle.lj_table.specs.Tables.{AreLists, AreNodes, Contents, Fits, IsNodeOf, IsTable, KeepsNodes, is_taken}
 use Rattle.lj_table.specs.Tables.{mark_at, state_of}
+use Rattle.lj_table.specs.declared.rests.Rest.{Rest}
 use Rattle.lj_table.proofs.ByCell.{not_iff}
+use Rattle.lj_table.proofs.Offering.{both_grown}
 use Rattle.lj_table.proofs.Openings.{still_busy, still_taken}
+use Rattle.lj_table.proofs.Rested.{still_rested}
 use Rattle.lj_table.proofs.RowLists.{more_uploads}
 
 abbrev with_spare : Nodes → ℕ → Nodes
@@ -50,6 +57,11 @@ table_spare t a2 e h = subst (λ x. IsTable (record t { arena = x })) (sym e) (r
 
 pub spare_alone : (a a2 : Nodes) (n : ℕ) → a2 ≡ record a { spare = n } → a2 ≡ record a { spare = a2.spare }
 spare_alone a a2 n e = e ∙ ap (λ m. with_spare a m) (sym (ap (λ (x : Nodes). x.spare) e))
+
+pub spare_by : {T E : Type 0} (r : Result T E) (a a2 : Nodes) (n : ℕ) → OnOk r (a2 ≡ record a { spare = n })
+    → OnErr r (a2 ≡ a) → a2 ≡ record a { spare = a2.spare }
+spare_by (Ok x) a a2 n ok err = spare_alone a a2 n ok
+spare_by (Err x) a a2 n ok err = spare_alone a a2 a.spare err
 
 -- an upload was added to an arena, and maybe room
 pub record IsPushed (a : Nodes) (u : Upload) (a2 : Nodes) : Type 0 where
@@ -155,6 +167,13 @@ module _ (t n : Contents) (a2 : Nodes) (u : Upload) (table : IsTable t) (p : IsP
   nodes_after c at same = subst
       (λ f. at_cell f n.bounds c ≡ at_cell f t.bounds c → at_cell f n.nodes c ≡ at_cell f t.nodes c)
       p.frame (k.keeps c (in_a2 c at)) same
+
+  pub known_after : (rest : Option Rest) → IfSome rest (HasRested t.arena t.bounds)
+      → IfSome rest (HasRested n.arena n.bounds)
+  known_after rest h =
+      still_rested t.arena n.arena t.bounds n.bounds (u ∷ []) rest (k.frame ∙ p.frame) (k.uploads ∙ p.uploads)
+      (both_grown t.arena a2 n.arena t.bounds t.bounds n.bounds
+      (record { more = omega (arith, ap length p.rules); same = λ _. refl }) k.grown) h
 
   pub accepted_table : ((s m : State) (w : Upload) → Good s → IsCovering w → InFrame s.frame w.cell → Accepts s w m →
       Good m) → IsCovering u → InFrame t.arena.frame u.cell → IsTable n

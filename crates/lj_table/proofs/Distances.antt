@@ -1,6 +1,7 @@
 -- A turn brings a table nearer to rest.
-use Rattle.std.proofs.Common.{◌≡◌, ◌≢◌, ℕ, suc, ◌+◌, ◌*◌, ◌<◌, ◌≤◌, Bool, true, false, not, cond, List, length}
-use Rattle.std.proofs.Common.{sum, get_or, sym, ap, ◌∙◌, subst, arith, ⊎_elim, mul-le-mul, suc-mul}
+use Rattle.std.proofs.Common.{◌≡◌, ℕ, suc, ◌+◌, ◌*◌, ◌<◌, ◌≤◌, Bool, true, false, not, cond, List, length}
+use Rattle.std.proofs.Common.{sum, get_or, refl, sym, ap, ◌∙◌, subst, arith, inl, inr, le_trans, ⊎_elim}
+use Rattle.std.proofs.Common.{mul-le-mul, suc-mul}
 use Rattle.std.proofs.Math.ListN.{set}
 use Rattle.std.proofs.lemmas.Bool.{cases_eq}
 use Rattle.std.proofs.lemmas.List.{get_or-set_same, get_or-set_other}
@@ -9,9 +10,9 @@ use Rattle.std.specs.List.{count_by}
 use Rattle.lj_base.specs.Bounds.{at_cell}
 use Rattle.lj_base.specs.Cells.{Triple}
 use Rattle.lj_base.specs.Frames.{InFrame, index_of}
-use Rattle.lj_table.specs.Settling.{IsTurn, distance}
-use Rattle.lj_table.specs.Tables.{Contents, KeepsNodes, is_taken}
-use Rattle.lj_table.proofs.ByCell.{cell_cases}
+use Rattle.lj_relax.specs.Tickets.{TicketLists}
+use Rattle.lj_table.specs.Settling.{IsLater, IsTurn, distance}
+use Rattle.lj_table.specs.Tables.{Contents, Fits, is_taken}
 
 fewer : (marks : List Bool) (i : ℕ) → i < length marks → get_or marks i false ≡ false
     → count_by not (set marks i true) + 1 ≡ count_by not marks
@@ -63,36 +64,66 @@ no_higher i t n h j =
     (λ closed. omega (arith, ap (λ bs. get_or bs j 0) closed.bounds))
     h.moved
 
--- after turns that raised no bound, more room and one turn more, a cell whose bound is what it was has the node that it
--- had
-pub kept_by_turn : (t m r n : Contents) (i : ℕ) → m.arena.frame ≡ t.arena.frame
-    → ((c : Triple) → InFrame t.arena.frame c → at_cell t.arena.frame m.bounds c ≤ at_cell t.arena.frame t.bounds c)
-    → KeepsNodes t m → r ≡ record m { arena = record m.arena { spare = r.arena.spare } }
-    → IsTurn i r n → KeepsNodes r n → KeepsNodes t n
-kept_by_turn t m r n i frame falls before room turn after c at same =
-    let low : at_cell t.arena.frame n.bounds c ≤ at_cell t.arena.frame m.bounds c =
-    subst (λ (x : Contents). at_cell t.arena.frame n.bounds c ≤ at_cell t.arena.frame x.bounds c) room
-    (no_higher i r n turn (index_of t.arena.frame c)) in
-    let mid : at_cell t.arena.frame m.bounds c ≡ at_cell t.arena.frame t.bounds c =
-    omega (arith, same, low, falls c at) in
-    let kept : KeepsNodes m n = subst (λ (x : Contents). KeepsNodes x n) room after in
-    let step : at_cell t.arena.frame n.bounds c ≡ at_cell t.arena.frame m.bounds c
-    → at_cell t.arena.frame n.nodes c ≡ at_cell t.arena.frame m.nodes c =
-    subst (λ f. at_cell f n.bounds c ≡ at_cell f m.bounds c → at_cell f n.nodes c ≡ at_cell f m.nodes c) frame
-    (kept c (subst (λ f. InFrame f c) (sym frame) at)) in
-    step (same ∙ sym mid) ∙ before c at mid
+-- nothing was done
+pub later_none : (t : Contents) → IsLater t t
+later_none t = record {
+  frame = refl;
+  uploads = refl;
+  falls = λ c at. omega arith;
+  nodes = λ c at same. refl;
+  untaken = λ c at was. was;
+  fits = λ q h. h;
+}
 
--- after turns that took no cell, more room and one turn more, a cell that was not taken is not taken
-pub untaken_by_turn : (t m r n : Contents) (c : Triple) → m.arena.frame ≡ t.arena.frame
-    → ((d : Triple) → InFrame t.arena.frame d → is_taken t d ≡ false → is_taken m d ≡ false)
-    → r ≡ record m { arena = record m.arena { spare = r.arena.spare } }
-    → is_taken n c ≡ false
-    → ((d : Triple) → InFrame r.arena.frame d → d ≢ c → is_taken n d ≡ is_taken r d)
-    → (d : Triple) → InFrame t.arena.frame d → is_taken t d ≡ false → is_taken n d ≡ false
-untaken_by_turn t m r n c frame before room own others d at was =
-    let within : InFrame r.arena.frame d =
-    subst (λ (x : Contents). InFrame x.arena.frame d) (sym room) (subst (λ f. InFrame f d) (sym frame) at) in
-    let still : is_taken r d ≡ false =
-    subst (λ (x : Contents). is_taken x d ≡ false) (sym room) (before d at was) in
-    ⊎_elim (λ e. subst (λ x. is_taken n x ≡ false) (sym e) own) (λ other. others d within other ∙ still)
-    (cell_cases d c)
+-- room for more nodes changes nothing else
+pub later_spare : (t n : Contents) → n ≡ record t { arena = record t.arena { spare = n.arena.spare } }
+    → ((q : TicketLists) → Fits t.arena q → Fits n.arena q) → IsLater t n
+later_spare t n e fits = record {
+  frame = ap (λ (x : Contents). x.arena.frame) e;
+  uploads = ap (λ (x : Contents). x.arena.uploads) e;
+  falls = λ c at. omega (arith, ap (λ (x : Contents). at_cell t.arena.frame x.bounds c) e);
+  nodes = λ c at same. ap (λ (x : Contents). at_cell t.arena.frame x.nodes c) e;
+  untaken = λ c at was. subst (λ (x : Contents). is_taken x c ≡ false) (sym e) was;
+  fits = fits;
+}
+
+pub turn_spare : (t m n : Contents) (c : Triple) → m ≡ record t { arena = record t.arena { spare = m.arena.spare } }
+    → IsTurn (index_of m.arena.frame c) m n → IsTurn (index_of t.arena.frame c) t n
+turn_spare t m n c e h =
+    let k = subst (λ (x : Contents). IsTurn (index_of x.arena.frame c) x n) e h in
+    record {
+      inside = k.inside;
+      place = k.place;
+      was = k.was;
+      closed_len = k.closed_len;
+      moved = ⊎_elim (λ low. inl low) (λ closed. inr (record { bounds = closed.bounds; closed = closed.closed }))
+          k.moved;
+    }
+
+-- one after the other
+pub later_both : (t m n : Contents) → IsLater t m → IsLater m n → IsLater t n
+later_both t m n g h = record {
+  frame = h.frame ∙ g.frame;
+  uploads = h.uploads ∙ g.uploads;
+  falls = λ c at. le_trans (below_m c at) (g.falls c at);
+  nodes = λ c at same.
+      let mid : at_cell t.arena.frame m.bounds c ≡ at_cell t.arena.frame t.bounds c =
+      omega (arith, same, below_m c at, g.falls c at) in
+      keeps_m c at (same ∙ sym mid) ∙ g.nodes c at mid;
+  untaken = λ c at was. h.untaken c (in_m c at) (g.untaken c at was);
+  fits = λ q k. h.fits q (g.fits q k);
+}
+  where
+    in_m : (c : Triple) → InFrame t.arena.frame c → InFrame m.arena.frame c
+    in_m c at = subst (λ f. InFrame f c) (sym g.frame) at
+
+    below_m : (c : Triple) → InFrame t.arena.frame c
+        → at_cell t.arena.frame n.bounds c ≤ at_cell t.arena.frame m.bounds c
+    below_m c at = subst (λ f. at_cell f n.bounds c ≤ at_cell f m.bounds c) g.frame (h.falls c (in_m c at))
+
+    keeps_m : (c : Triple) → InFrame t.arena.frame c
+        → at_cell t.arena.frame n.bounds c ≡ at_cell t.arena.frame m.bounds c
+        → at_cell t.arena.frame n.nodes c ≡ at_cell t.arena.frame m.nodes c
+    keeps_m c at same = subst
+        (λ f. at_cell f n.bounds c ≡ at_cell f m.bounds c → at_cell f n.nodes c ≡ at_cell f m.nodes c)
+        g.frame (h.nodes c (in_m c at)) same

@@ -7,5 +7,6 @@ pub mod Offering
 pub mod Openings
 pub mod PartPlaces
 pub mod Publications
+pub mod Rested
 pub mod RowLists
 pub mod RuleNodes

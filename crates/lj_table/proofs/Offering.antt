@@ -10,14 +10,15 @@ use Rattle.lj_cover.specs.Rules.{Upload, One, Runs, All, Leaf, Derived, Derived2
 use Rattle.lj_cover.specs.Rules.{Induced}
 use Rattle.lj_cover.specs.Rules.{rule_cost, triple}
 use Rattle.lj_cover.specs.Rules.{Rule as TreeRule}
+use Rattle.lj_deriv.specs.Nodes.{Nodes}
 use Rattle.lj_relax.specs.Steps.{IsOffer}
 use Rattle.lj_table.specs.Accepting.{IsFallen, IsLessened, IsOffered, IsStage, IsTakenIn, ReadsFallen, offer_number}
 use Rattle.lj_table.specs.Lowering.{IsStored}
 use Rattle.lj_table.specs.Opening.{IsOpened}
-use Rattle.lj_table.specs.Tables.{AreLists, AreNodes, Contents, mark_at}
+use Rattle.lj_table.specs.Tables.{AreLists, AreNodes, Contents, HasGrown, mark_at}
 use Rattle.lj_table.proofs.ByCell.{cell_cases}
 use Rattle.lj_table.proofs.Openings.{both_opened, none_opened}
-use Rattle.lj_table.proofs.Publications.{less_self, lists_after}
+use Rattle.lj_table.proofs.Publications.{less_self, lists_after, none_grown}
 
 -- nothing was done
 pub fallen_none : (t : Contents) → AreLists t → (spent : ℕ) → IsFallen spent t t
@@ -28,6 +29,7 @@ fallen_none t lists spent = record {
   fits = λ q h. h;
   lists = lists;
   are = λ h. h;
+  grown = none_grown t.arena t.bounds;
   most = λ c h. omega arith;
   opened = λ d at. (λ h. inl h, λ w. ⊎_elim (λ h. h) (λ r. absurd (less_self r.fell)) w);
   marks = none_opened t.closed t.busy;
@@ -36,6 +38,13 @@ fallen_none t lists spent = record {
   where
     less_self : {n : ℕ} → n < n → ⊥
     less_self h = omega (arith, h)
+
+pub both_grown : (a a2 a3 : Nodes) (bounds bounds2 bounds3 : List ℕ) → HasGrown a bounds a2 bounds2
+    → HasGrown a2 bounds2 a3 bounds3 → HasGrown a bounds a3 bounds3
+both_grown a a2 a3 bounds bounds2 bounds3 g h = record {
+  more = le_trans g.more h.more;
+  same = λ e. h.same (omega (arith, e, g.more, h.more)) ∙ g.same (omega (arith, e, g.more, h.more));
+}
 
 -- two stages after each other
 pub fallen_both : (t m n : Contents) (a b : ℕ) → IsFallen a t m → IsFallen b m n → IsFallen (a + b) t n
@@ -47,6 +56,7 @@ fallen_both t m n a b g h = record {
   lists = h.lists;
   are = λ k. subst (λ f. AreNodes f n.arena n.nodes n.bounds) g.frame
       (h.are (subst (λ f. AreNodes f m.arena m.nodes m.bounds) (sym g.frame) (g.are k)));
+  grown = both_grown t.arena m.arena n.arena t.bounds m.bounds n.bounds g.grown h.grown;
   most = λ c at. le_trans (below_m c at) (g.most c at);
   opened = λ d at. (
     λ q. ⊎_elim (λ e. ⊎_elim (λ k. inl k) (λ (r : ReadsFallen t.arena.frame t.bounds m.bounds d). inr
@@ -115,6 +125,7 @@ offered_by t c cost m closed2 busy2 inside lists low s o =
         fits = s.fits;
         lists = lists_after t m c cost closed2 busy2 lists s o.marks;
         are = s.are;
+        grown = record { more = omega (arith, s.added); same = λ e. absurd (omega (arith, s.added, e)) };
         keeps = λ d at same. ⊎_elim
             (λ q. absurd (less_self (sym s.bound ∙ ap (at_cell t.arena.frame m.bounds) (sym q) ∙ same ∙ ap
             (at_cell t.arena.frame t.bounds) q) low))
@@ -310,6 +321,7 @@ taken_in t m u closed2 busy2 g o = record {
     index = g.fallen.lists.index;
   };
   are = g.fallen.are;
+  grown = g.fallen.grown;
   keeps = g.fallen.keeps;
   bounds = λ c at. record {
     most = g.fallen.most c at;

@@ -25,11 +25,12 @@ use Rattle.lj_relax.specs.Tickets.{TicketLists, snapshot_of}
 use Rattle.lj_table.specs.Lowering.{AgreesWith, IsGivenBack, IsLowered, IsStored}
 use Rattle.lj_table.specs.Opening.{AreOpened, IsOpened}
 use Rattle.lj_table.specs.RulesOver.{IsRuleFor}
-use Rattle.lj_table.specs.Settling.{IsTurn}
-use Rattle.lj_table.specs.Tables.{AreLists, AreNodes, Contents, Fits, IsIndexed, IsNodeOf, IsTable, is_taken, mark_at}
-use Rattle.lj_table.specs.Tables.{state_of}
+use Rattle.lj_table.specs.Settling.{IsLater, IsTurn}
+use Rattle.lj_table.specs.Tables.{AreLists, AreNodes, Contents, Fits, HasGrown, IsIndexed, IsNodeOf, IsTable}
+use Rattle.lj_table.specs.Tables.{is_taken, mark_at, state_of}
 use Rattle.lj_table.proofs.ByCell.{apart, at_cell-other, at_cell-same, at_false, at_true, cell_cases, not_iff}
 use Rattle.lj_table.proofs.ByCell.{same_bool}
+use Rattle.lj_table.proofs.Distances.{no_higher}
 use Rattle.lj_table.proofs.Openings.{none_opened, still_busy, still_taken}
 
 pub record SomeOf (o : Option ℕ) (P : ℕ → Type 0) : Type 0 where
@@ -103,6 +104,7 @@ module _ (a : Nodes) (r : Rule) (i : ℕ) (a2 : Nodes) (added : IsAdded a r i a2
             (sym (at_cell-other f lists.index bounds c d cost inside at other))
             (node_kept (at_cell f nodes d) d (at_cell f bounds d) (were d at))))
             (cell_cases d c);
+        added = ap length added.rules ∙ length_push a.rules r;
         list = refl;
         bound = at_cell-same f lists.index bounds c cost inside lists.bounds;
         others = λ d at other. at_cell-other f lists.index bounds c d cost inside at other;
@@ -149,6 +151,10 @@ lowered_by t e cost m closed2 busy2 inside lists is low s o =
       fits = s.fits;
       lists = lists_after t m c cost closed2 busy2 lists s o.marks;
       nodes = s.are;
+      grown = record {
+        more = omega (arith, s.added);
+        same = λ e. absurd (omega (arith, s.added, e));
+      };
       bound = priced;
       kept = tt;
       others = s.others;
@@ -168,6 +174,9 @@ lowered_by t e cost m closed2 busy2 inside lists is low s o =
       marks = o.marks;
     }
 
+pub none_grown : (a : Nodes) (bounds : List ℕ) → HasGrown a bounds a bounds
+none_grown a bounds = record { more = omega arith; same = λ e. refl }
+
 pub not_lowered : (t : Contents) (e : Evaluation) → AreLists t
     → (Lowers (state_of t) (snapshot_of e.ticket) (found_cost e.found) → ⊥) → IsLowered t e false t
 not_lowered t e lists none = record {
@@ -178,6 +187,7 @@ not_lowered t e lists none = record {
   fits = λ q h. h;
   lists = lists;
   nodes = λ h. h;
+  grown = none_grown t.arena t.bounds;
   bound = tt;
   kept = refl;
   others = λ d at other. refl;
@@ -230,7 +240,7 @@ not_or : (b c : Bool) → not (b || c) ≡ cond b false (not c)
 not_or true c = refl
 not_or false c = refl
 
-taken_none : (b : Bool) → (b && not b) ≡ false
+pub taken_none : (b : Bool) → (b && not b) ≡ false
 taken_none true = refl
 taken_none false = refl
 
@@ -362,4 +372,18 @@ module _ (t m : Contents) (e : Evaluation) (low agreed : Bool) (i : ℕ) (closed
                 ∙ ap (λ xs. set xs (index_of t.arena.frame e.ticket.cell) true) (at_false low _ kept l.still);
           }))
           (cases_Bool low);
+    }
+
+    pub later_is : agreed ≡ true → mark_at t.arena.frame t.closed e.ticket.cell ≡ false
+        → IsLater t (record m { closed = closed2; busy = busy2 })
+    later_is agreeing was = record {
+      frame = l.frame;
+      uploads = l.uploads;
+      falls = λ d h. no_higher (index_of t.arena.frame e.ticket.cell) t (record m { closed = closed2; busy = busy2 })
+          (turn_is agreeing was) (index_of t.arena.frame d);
+      nodes = λ d h same. l.keeps d h same;
+      untaken = λ d h free. ⊎_elim
+          (λ same. subst (λ z. is_taken (record m { closed = closed2; busy = busy2 }) z ≡ false) (sym same) untaken)
+          (λ other. taken_kept d h other ∙ free) (cell_cases d e.ticket.cell);
+      fits = l.fits;
     }

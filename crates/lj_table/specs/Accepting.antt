@@ -8,7 +8,7 @@ use Rattle.lj_cover.specs.Rules.{Rule, Upload, Leaf, Derived, Derived2, rule_cos
 use Rattle.lj_relax.specs.Steps.{IsLesser, IsOffer}
 use Rattle.lj_relax.specs.Tickets.{TicketLists}
 use Rattle.lj_table.specs.Opening.{AreOpened}
-use Rattle.lj_table.specs.Tables.{AreLists, AreNodes, Contents, Fits, KeepsNodes, mark_at}
+use Rattle.lj_table.specs.Tables.{AreLists, AreNodes, Contents, Fits, HasGrown, KeepsNodes, mark_at}
 
 -- the cell reads one at which the bound has fallen
 pub record ReadsFallen (f : Top) (old new : List ℕ) (d : Triple) : Type 0 where
@@ -25,6 +25,7 @@ pub record IsFallen (spent : ℕ) (t n : Contents) : Type 0 where
   pub fits : (q : TicketLists) → Fits t.arena q → Fits n.arena q
   pub lists : AreLists n
   pub are : AreNodes t.arena.frame t.arena t.nodes t.bounds → AreNodes t.arena.frame n.arena n.nodes n.bounds
+  pub grown : HasGrown t.arena t.bounds n.arena n.bounds
   pub keeps : KeepsNodes t n
   pub most : (c : Triple) → InFrame t.arena.frame c
       → at_cell t.arena.frame n.bounds c ≤ at_cell t.arena.frame t.bounds c
@@ -67,6 +68,7 @@ pub record IsTakenIn (u : Upload) (t n : Contents) : Type 0 where
   pub fits : (q : TicketLists) → Fits t.arena q → Fits n.arena q
   pub lists : AreLists n
   pub are : AreNodes t.arena.frame t.arena t.nodes t.bounds → AreNodes t.arena.frame n.arena n.nodes n.bounds
+  pub grown : HasGrown t.arena t.bounds n.arena n.bounds
   pub keeps : KeepsNodes t n
   pub bounds : (c : Triple) → InFrame t.arena.frame c
       → IsLesser u c (at_cell t.arena.frame t.bounds c) (at_cell t.arena.frame n.bounds c)

@@ -1,5 +1,6 @@
 -- Tables of bounds as contracts see them, and what their type says.
-use Rattle.std.specs.Prelude.{◌≡◌, ◌↔◌, ℕ, ◌<◌, Bool, true, false, not, ◌&&◌, All, IsTrue, List, length, slice_index_or}
+use Rattle.std.specs.Prelude.{◌≡◌, ◌↔◌, ℕ, ◌<◌, ◌≤◌, Bool, true, false, not, ◌&&◌, All, IsTrue, List}
+use Rattle.std.specs.Prelude.{length, slice_index_or}
 use Rattle.lj_base.specs.Bounds.{at_cell}
 use Rattle.lj_base.specs.Cells.{Triple}
 use Rattle.lj_base.specs.Frames.{InFrame, Top, index_of, size_of}
@@ -98,6 +99,11 @@ pub record Fits (a : Nodes) (q : TicketLists) : Type 0 where
   pub frame : q.frame ≡ a.frame
   pub nodes : AreNodes q.frame a q.nodes q.bounds
   pub rows : All (IsRowOf a.uploads q.cell) q.rows
+
+-- nodes were only added, and where none was no bound has changed
+pub record HasGrown (a : Nodes) (bounds : List ℕ) (a2 : Nodes) (bounds2 : List ℕ) : Type 0 where
+  pub more : length a.rules ≤ length a2.rules
+  pub same : length a2.rules ≡ length a.rules → bounds2 ≡ bounds
 
 -- the cells whose bound stays keep their node
 abbrev pub KeepsNodes : Contents → Contents → Type 0

@@ -4,6 +4,7 @@ ghost use Rattle.lj_base.specs.Frames.{InFrame, size_of};
 ghost use Rattle.lj_cover.specs.Instances.{Reads};
 ghost use Rattle.lj_table.specs.Opening.{IsOpened, IsReopened};
 
+use crate::places::Places;
 use lj_base::{Cell, Frame, index_law};
 use lj_bitmap::RankMap;
 use lj_relax::Dependents;
@@ -17,9 +18,10 @@ pub fn open_readers(frame: Frame, c: Cell, closed: &mut RankMap, busy: &mut Rank
 {
     index_law();
     let mut readers = Dependents::of(frame, c);
+    let mut places = Places::of(frame, c);
     while let Some(d) = readers.next() {
         if is_other(d, c) {
-            reopen(closed, busy, frame.index(d));
+            reopen(closed, busy, places.place(d));
         }
     }
 }
@@ -33,8 +35,9 @@ pub fn open_all_readers(frame: Frame, c: Cell, closed: &mut RankMap, busy: &mut 
 {
     index_law();
     let mut readers = Dependents::of(frame, c);
+    let mut places = Places::of(frame, c);
     while let Some(d) = readers.next() {
-        reopen(closed, busy, frame.index(d));
+        reopen(closed, busy, places.place(d));
     }
 }
 

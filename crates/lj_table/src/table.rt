@@ -16,7 +16,7 @@ ghost use Rattle.lj_relax.specs.Found.{found_cost};
 ghost use Rattle.lj_relax.specs.Steps.{Accepts, Publishes};
 ghost use Rattle.lj_relax.specs.Tickets.{TicketLists, snapshot_of};
 ghost use Rattle.lj_table.specs.Claiming.{IsClaimed, IsFirst};
-ghost use Rattle.lj_table.specs.Settling.{IsTurn};
+ghost use Rattle.lj_table.specs.Settling.{IsLater, IsTurn, NoneCheaper};
 ghost use Rattle.lj_table.specs.Starting.{IsFresh};
 ghost use Rattle.lj_table.specs.Tables.{AreLeast, Fits, IsAtRest, IsNodeOf, IsTable, KeepsNodes, is_taken, state_of};
 
@@ -24,6 +24,7 @@ use crate::agreement::agrees;
 use crate::fitting::{are_nodes, are_rows};
 use crate::marks::{first_unmarked, give_back, next_cell};
 use crate::outcomes::{Claimed, Outcome};
+use crate::rests::Rest;
 use crate::rows::{present_rows, push_rows};
 use crate::starting::begin;
 use crate::store::Store;
@@ -42,16 +43,19 @@ use std::marker::Model;
 #[derive(Drop)]
 pub struct Table {
     store: Store,
+    // When the table was settled last.
+    rest: Option<Rest>,
 }
 
 impl Model for Table {
-    ghost use Rattle.lj_table.specs.Tables.{Contents, IsTable, contents_of};
+    ghost use Rattle.lj_table.specs.Settling.{IsWhole};
+    ghost use Rattle.lj_table.specs.Tables.{Contents, contents_of};
 
     ghost Value = { Contents };
 
     ghost view = { λ t. contents_of t.store };
 
-    ghost invariant = { λ t. IsTable (contents_of t.store) };
+    ghost invariant = { λ t. IsWhole (contents_of t.store) t.rest };
 }
 
 impl Table {
@@ -78,7 +82,7 @@ impl Table {
             closed,
             busy,
         };
-        Ok(Table { store })
+        Ok(Table { store, rest: None })
     }
 
     pub fn frame(&self) -> Frame
@@ -264,7 +268,9 @@ impl Table {
     }
 
     /// Finds a least price at the first open cell until none is open; then each bound is the least. It works over the
-    /// table's own lists, and makes the rows of a cell once a turn. After `Memory` bounds may have fallen.
+    /// table's own lists. Cost: for each cell, each time that it is opened, the search for a least product and a step
+    /// for each upload; but as long as no bound has fallen since the table was settled last, only a step for each
+    /// upload that has come since. After `Memory` bounds may have fallen.
     pub fn settle(&mut self, alloc: Global) -> Result<(), Memory>
         ensures rest { OnOk result (IsAtRest self.new) }
         ensures least { OnOk result (AreLeast self.new) }
@@ -280,16 +286,65 @@ impl Table {
         rest_is_least();
         let mut rows = Vec::new(alloc);
         while let Some(c) = self.first_open() {
-            self.reserve()?;
-            present_rows(
-                self.store.arena.uploads(),
-                self.store.arena.frame(),
-                c,
-                &mut rows,
-            )?;
-            self.turn(c, &rows);
+            self.advance(c, &mut rows)?;
         }
+        self.keep_rest();
         Ok(())
+    }
+
+    // Keeps when the table was at rest: now.
+    fn keep_rest(&mut self)
+        requires { IsAtRest self.old }
+        ensures { self.new ≡ self.old }
+    {
+        self.rest = Some(Rest {
+            uploads: self.store.arena.uploads().len(),
+            nodes: self.store.arena.len(),
+        });
+    }
+
+    // Closes the first open cell, where it is known that nothing is cheaper there, or makes a turn at it.
+    fn advance(&mut self, c: Cell, rows: &mut Vec<Row>) -> Result<(), Memory>
+        requires first { IsFirst self.old.arena.frame self.old.closed c }
+        ensures turn { OnOk result (IsTurn (index_of self.old.arena.frame c) self.old self.new) }
+        ensures later { IsLater self.old self.new }
+    {
+        if self.is_known(c, rows)? {
+            self.close(c);
+            return Ok(());
+        }
+        self.reserve()?;
+        present_rows(
+            self.store.arena.uploads(),
+            self.store.arena.frame(),
+            c,
+            rows,
+        )?;
+        self.turn(c, rows);
+        Ok(())
+    }
+
+    // Whether the uploads since the table was settled last show that nothing is cheaper at the cell than the bound.
+    fn is_known(&self, c: Cell, rows: &mut Vec<Row>) -> Result<bool, Memory>
+        requires { InFrame self.now.arena.frame c }
+        ensures { IfOk result (λ known. OnTrue known
+            (NoneCheaper self.now.arena.frame self.now.bounds self.now.arena.uploads c)) }
+    {
+        match self.rest {
+            Some(rest) => self.store.is_least_since(rest, c, rows),
+            None => Ok(false),
+        }
+    }
+
+    // Closes an open cell at which nothing is cheaper than the bound.
+    fn close(&mut self, c: Cell)
+        requires first { IsFirst self.old.arena.frame self.old.closed c }
+        requires least { NoneCheaper self.old.arena.frame self.old.bounds self.old.arena.uploads c }
+        ensures turn { IsTurn (index_of self.old.arena.frame c) self.old self.new }
+        ensures later { IsLater self.old self.new }
+    {
+        let i = self.store.arena.frame().index(c);
+        give_back(&mut self.store.closed, &mut self.store.busy, i, true);
     }
 
     // The first open cell.
@@ -307,14 +362,8 @@ impl Table {
         requires first { IsFirst self.old.arena.frame self.old.closed c }
         requires rows { rows.now ≡ rows_at self.old.arena.uploads c }
         requires fit { All (IsRowAt self.old.arena.frame c) rows.now }
-        ensures frame { self.new.arena.frame ≡ self.old.arena.frame }
-        ensures uploads { self.new.arena.uploads ≡ self.old.arena.uploads }
         ensures turn { IsTurn (index_of self.old.arena.frame c) self.old self.new }
-        ensures nodes { KeepsNodes self.old self.new }
-        ensures untaken { is_taken self.new c ≡ false }
-        ensures taken { (d : Triple) → InFrame self.old.arena.frame d → d ≢ c
-            → is_taken self.new d ≡ is_taken self.old d }
-        ensures fits { (q : TicketLists) → Fits self.old.arena q → Fits self.new.arena q }
+        ensures later { IsLater self.old self.new }
     {
         publish_keeps_good();
         bounds_are_positive();

@@ -1,4 +1,5 @@
-use Rattle.std.proofs.Common.{◌≢◌, sym, ◌∙◌}
+use Rattle.std.proofs.Common.{◌≢◌, ◌<◌, ap, arith, subst, sym, ◌∙◌}
+use Rattle.lj_base.specs.Frames.{InFrame, index_of, size_of}
 use Rattle.lj_table.specs.Tables.{IsIndexed}
 use Rattle.lj_table.proofs.ByCell.{apart}
 use Rattle.lj_table.proofs.Openings.{walk_begins, walk_ends, walk_inside, walk_opens, walk_skips}
@@ -10,13 +11,33 @@ loop-d-init c = record {
   finite = tt;
   walk = walk_begins c.args.frame c.args.c (λ d. d ≢ c.args.c) c.of-readers.result c.args.closed.now c.args.busy.now
       c.of-readers.ensures;
+  places = c.of-places.ensures;
 }
 
-pub index-requires : goal.index-requires
-index-requires c =
-    walk_inside c.args.frame c.args.c c.in-Some.d
+pub place-requires : goal.place-requires
+place-requires c =
+    subst (λ f. InFrame f c.in-Some.d) (sym c.loop-d.invariant.places)
+    (walk_inside c.args.frame c.args.c c.in-Some.d
     (λ d. d ≢ c.args.c) c.next.new.self c.loop-d.readers c.args.closed.now c.args.busy.now
-    c.loop-d.closed c.loop-d.busy c.in-Some.ensures.steps c.loop-d.invariant.walk
+    c.loop-d.closed c.loop-d.busy c.in-Some.ensures.steps c.loop-d.invariant.walk)
+
+below : (c : goal.After-place) → c.place.result < size_of c.args.frame
+below c =
+    let inside = walk_inside c.args.frame c.args.c c.in-Some.d (λ d. d ≢ c.args.c) c.next.new.self c.loop-d.readers
+    c.args.closed.now c.args.busy.now c.loop-d.closed c.loop-d.busy c.in-Some.ensures.steps c.loop-d.invariant.walk in
+    omega (
+      arith,
+      c.place.ensures.place ∙ ap (λ f. index_of f c.in-Some.d) c.loop-d.invariant.places,
+      c.index_law.ensures.below c.args.frame c.in-Some.d inside,
+    )
+
+pub reopen-requires-clause-closed : goal.reopen-requires-clause-closed
+reopen-requires-clause-closed c =
+    omega (arith, below c, c.requires.closed, c.loop-d.invariant.walk.opened.marks.closed_len)
+
+pub reopen-requires-clause-busy : goal.reopen-requires-clause-busy
+reopen-requires-clause-busy c =
+    omega (arith, below c, c.requires.busy, c.loop-d.invariant.walk.opened.marks.busy_len)
 
 pub loop-d-preserved-then-is_other : goal.loop-d-preserved-then-is_other
 loop-d-preserved-then-is_other c =
@@ -31,10 +52,12 @@ loop-d-preserved-then-is_other c =
     record {
       next = tt;
       finite = tt;
-      walk = walk_opens f ix c.args.c c.in-Some.d (λ d. d ≢ c.args.c) c.next.new.self c.loop-d.readers c.index.result
+      walk = walk_opens f ix c.args.c c.in-Some.d (λ d. d ≢ c.args.c) c.next.new.self c.loop-d.readers c.place.result
           c.args.closed.now c.args.busy.now c.loop-d.closed c.loop-d.busy c.reopen.new.closed c.reopen.new.busy inside
-          c.index.ensures.index (c.is_other.ensures.0 c.if-is_other.true) c.in-Some.ensures.steps c.reopen.ensures
+          (c.place.ensures.place ∙ ap (λ f. index_of f c.in-Some.d) c.loop-d.invariant.places)
+          (c.is_other.ensures.0 c.if-is_other.true) c.in-Some.ensures.steps c.reopen.ensures
           c.loop-d.invariant.walk;
+      places = c.place.ensures.frame ∙ c.loop-d.invariant.places;
     }
 
 pub loop-d-preserved : goal.loop-d-preserved
@@ -45,6 +68,7 @@ loop-d-preserved c = record {
       c.args.closed.now c.args.busy.now c.loop-d.closed c.loop-d.busy
       (λ other. apart (sym (c.is_other.ensures.1 other) ∙ c.if-is_other.false)) c.in-Some.ensures.steps
       c.loop-d.invariant.walk;
+  places = c.loop-d.invariant.places;
 }
 
 pub returns : goal.returns

@@ -4,19 +4,23 @@ use Rattle.lj_cover.specs.Rules.{Upload}
 use Rattle.lj_deriv.specs.Nodes.{Nodes}
 use Rattle.lj_relax.specs.Steps.{Accepts}
 use Rattle.lj_table.specs.Accepting.{IsTakenIn}
-use Rattle.lj_table.specs.Tables.{Contents, Fits, IsTable, contents_of, state_of}
-use Rattle.lj_table.proofs.Acceptances.{IsPushed, accept_is, accepted_table, fits_pushed, last_is, pushed_by}
-use Rattle.lj_table.proofs.Acceptances.{spare_alone}
-use Rattle.lj_table.proofs.Acceptances.{table_spare}
+use Rattle.lj_table.specs.Settling.{IsWhole}
+use Rattle.lj_table.specs.Tables.{Contents, Fits, contents_of, state_of}
+use Rattle.lj_table.proofs.Acceptances.{IsPushed, accept_is, accepted_table, fits_pushed, known_after, last_is}
+use Rattle.lj_table.proofs.Acceptances.{pushed_by, spare_alone, table_spare}
+use Rattle.lj_table.proofs.Rested.{rested_spare}
 use Rattle.lj_table.proofs.table.Table.accept.Goals as goal
 
 pub invariant_of-self-in_err-u : goal.invariant_of-self-in_err-u
 invariant_of-self-in_err-u c =
     let t : Contents = contents_of c.self.inside.store in
-    subst (λ (a : Nodes). IsTable (record t { arena = a })) (sym c.in_err-u.ensures.err)
-    (table_spare t c.reserve.new.self (spare_alone c.self.inside.store.arena c.reserve.new.self _
-    c.in_ok-reserve.ensures.ok)
-    c.self.invariant)
+    let spare = spare_alone c.self.inside.store.arena c.reserve.new.self _ c.in_ok-reserve.ensures.ok in
+    subst (λ (a : Nodes). IsWhole (record t { arena = a }) c.self.inside.rest) (sym c.in_err-u.ensures.err)
+    (record {
+      table = table_spare t c.reserve.new.self spare c.self.invariant.table;
+      known = rested_spare c.self.inside.store.arena c.reserve.new.self c.self.inside.store.bounds.items
+          c.self.inside.rest spare c.self.invariant.known;
+    })
 
 pushed : (c : goal.After-take_in) → IsPushed c.self.inside.store.arena c.args.up c.push_upload.new.self
 pushed c =
@@ -46,15 +50,21 @@ inside c = subst (λ (x : Contents). InFrame x.arena.frame c.args.up.cell) (sym 
 pub invariant_of-self-2 : goal.invariant_of-self-2
 unfolding before
 invariant_of-self-2 c =
-    accepted_table (contents_of c.self.inside.store) (contents_of c.take_in.new.self) c.push_upload.new.self c.args.up
-    c.self.invariant (pushed c) (taken c) c.accept_keeps_good.ensures c.design.ensures.accepted.covering (inside c)
+    let t : Contents = contents_of c.self.inside.store in
+    let n : Contents = contents_of c.take_in.new.self in
+    record {
+      table = accepted_table t n c.push_upload.new.self c.args.up c.self.invariant.table (pushed c) (taken c)
+          c.accept_keeps_good.ensures c.design.ensures.accepted.covering (inside c);
+      known = known_after t n c.push_upload.new.self c.args.up c.self.invariant.table (pushed c) (taken c)
+          c.self.inside.rest c.self.invariant.known;
+    }
 
 pub returns-clause-step : goal.returns-clause-step
 unfolding before
 returns-clause-step c =
     subst (λ (x : Contents). Accepts (state_of x) c.args.up (state_of (contents_of c.take_in.new.self))) c.self.view_is
     (accept_is (contents_of c.self.inside.store) (contents_of c.take_in.new.self) c.push_upload.new.self c.args.up
-    c.self.invariant (pushed c) (taken c))
+    c.self.invariant.table (pushed c) (taken c))
 
 pub returns-clause-fits : goal.returns-clause-fits
 returns-clause-fits c q h =

@@ -7,7 +7,7 @@ use Rattle.lj_table.proofs.table.Table.at_rest.Goals as goal
 pub returns-in-None-clause-least : goal.returns-in-None-clause-least
 returns-in-None-clause-least c =
     let v = c.args.self.now in
-    let table = subst IsTable c.self.view_is c.self.invariant in
+    let table = subst IsTable c.self.view_is c.self.invariant.table in
     let frame = c.frame.ensures ∙ ap (λ (t : Contents). t.arena.frame) c.self.view_is in
     let closed = subst (λ f. (d : Triple) → InFrame f d → mark_at f c.self.inside.store.closed d ≡ true) frame
     (c.first_unmarked.ensures.none c.in-None.is) in

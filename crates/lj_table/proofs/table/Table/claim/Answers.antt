@@ -11,9 +11,9 @@ pub fill-requires-clause-bounds : goal.fill-requires-clause-bounds
 fill-requires-clause-bounds c =
     let frame = c.requires.frame ∙ ap (λ (t : Contents). t.arena.frame) (sym c.self.view_is) in
     let bounds : AreBounds c.self.inside.store.arena.frame c.self.inside.store.bounds.items = record {
-      count = c.self.invariant.lists.bounds;
-      some = c.bounds_are_positive.ensures (state_of (contents_of c.self.inside.store)) c.self.invariant.good;
-      small = c.self.invariant.good.small;
+      count = c.self.invariant.table.lists.bounds;
+      some = c.bounds_are_positive.ensures (state_of (contents_of c.self.inside.store)) c.self.invariant.table.good;
+      small = c.self.invariant.table.good.small;
     } in
     subst₂ AreBounds (sym frame) (sym c.deref.ensures.value) bounds
 

@@ -6,6 +6,7 @@ use Rattle.lj_relax.specs.Tickets.{TicketLists, snapshot_of}
 use Rattle.lj_table.specs.Lowering.{AgreesWith}
 use Rattle.lj_table.specs.Tables.{Contents, Fits, contents_of, is_taken, state_of}
 use Rattle.lj_table.proofs.Publications.{step_is, table_is, taken_kept}
+use Rattle.lj_table.proofs.Rested.{still_rested_same}
 use Rattle.lj_table.proofs.table.Table.publish.Goals as goal
 
 fits_before : (c : goal.After-give_back) → Fits c.self.inside.store.arena c.args.p.now.ticket
@@ -34,14 +35,20 @@ agrees c =
 
 pub invariant_of-self : goal.invariant_of-self
 invariant_of-self c =
-    table_is (contents_of c.self.inside.store)
-    (contents_of c.lower-lowered.new.self) c.args.p.now c.lower-lowered.result
-    c.agrees-agreed.result c.index-i.result c.give_back.new.closed c.give_back.new.busy c.self.invariant
-    (fits_before c) (inside c)
-    (at c) c.lower-lowered.ensures c.give_back.ensures (agrees c) c.rows_are_of_uploads.ensures.rows
-    c.publish_keeps_good.ensures c.nodes_derive.ensures (own c)
-    (subst (IsLeastPrice c.args.p.now.ticket.frame (snapshot_of c.args.p.now.ticket)) c.cost.ensures.cost
-    c.cost.ensures.least)
+    record {
+      table = table_is (contents_of c.self.inside.store)
+          (contents_of c.lower-lowered.new.self) c.args.p.now c.lower-lowered.result
+          c.agrees-agreed.result c.index-i.result c.give_back.new.closed c.give_back.new.busy c.self.invariant.table
+          (fits_before c) (inside c)
+          (at c) c.lower-lowered.ensures c.give_back.ensures (agrees c) c.rows_are_of_uploads.ensures.rows
+          c.publish_keeps_good.ensures c.nodes_derive.ensures (own c)
+          (subst (IsLeastPrice c.args.p.now.ticket.frame (snapshot_of c.args.p.now.ticket)) c.cost.ensures.cost
+          c.cost.ensures.least);
+      known = still_rested_same c.self.inside.store.arena c.lower-lowered.new.self.arena
+          c.self.inside.store.bounds.items c.lower-lowered.new.self.bounds.items c.self.inside.rest
+          c.lower-lowered.ensures.frame c.lower-lowered.ensures.uploads c.lower-lowered.ensures.grown
+          c.self.invariant.known;
+    }
 
 pub returns-clause-step : goal.returns-clause-step
 returns-clause-step c =
@@ -52,8 +59,8 @@ returns-clause-step c =
     c.self.view_is
     (step_is (contents_of c.self.inside.store)
     (contents_of c.lower-lowered.new.self) c.args.p.now c.lower-lowered.result
-    c.agrees-agreed.result c.index-i.result c.give_back.new.closed c.give_back.new.busy c.self.invariant (fits_before c)
-    (inside c) (at c) c.lower-lowered.ensures c.give_back.ensures (agrees c))
+    c.agrees-agreed.result c.index-i.result c.give_back.new.closed c.give_back.new.busy c.self.invariant.table
+    (fits_before c) (inside c) (at c) c.lower-lowered.ensures c.give_back.ensures (agrees c))
 
 pub returns-clause-taken : goal.returns-clause-taken
 returns-clause-taken c d h other =
@@ -64,8 +71,8 @@ returns-clause-taken c d h other =
     c.self.view_is
     (λ k. taken_kept (contents_of c.self.inside.store)
     (contents_of c.lower-lowered.new.self) c.args.p.now c.lower-lowered.result
-    c.agrees-agreed.result c.index-i.result c.give_back.new.closed c.give_back.new.busy c.self.invariant (fits_before c)
-    (inside c) (at c) c.lower-lowered.ensures c.give_back.ensures (agrees c) d k other) h
+    c.agrees-agreed.result c.index-i.result c.give_back.new.closed c.give_back.new.busy c.self.invariant.table
+    (fits_before c) (inside c) (at c) c.lower-lowered.ensures c.give_back.ensures (agrees c) d k other) h
 
 pub returns-clause-fits : goal.returns-clause-fits
 returns-clause-fits c q h =

@@ -8,9 +8,12 @@ pub invariant_of-result : goal.invariant_of-result
 invariant_of-result c =
     let b = c.begin.ensures in
     let size : c.size-n.result ≡ size_of c.begin.new.arena.frame = c.size-n.ensures.size ∙ ap size_of (sym b.frame) in
-    start_table c.begin.new.arena c.begin.new.bounds.items c.begin.new.nodes.items
-    (subst (λ f. IsBegun f (size_of f) c.begin.new.arena c.begin.new.bounds.items c.begin.new.nodes.items)
-    (sym b.frame) b)
-    c.nodes_derive.ensures c.in_ok-closed.closed c.in_ok-busy.busy
-    (c.in_ok-closed.ensures ∙ ap (λ n. replicate n false) size)
-    (c.in_ok-busy.ensures ∙ ap (λ n. replicate n false) size)
+    record {
+      table = start_table c.begin.new.arena c.begin.new.bounds.items c.begin.new.nodes.items
+          (subst (λ f. IsBegun f (size_of f) c.begin.new.arena c.begin.new.bounds.items c.begin.new.nodes.items)
+          (sym b.frame) b)
+          c.nodes_derive.ensures c.in_ok-closed.closed c.in_ok-busy.busy
+          (c.in_ok-closed.ensures ∙ ap (λ n. replicate n false) size)
+          (c.in_ok-busy.ensures ∙ ap (λ n. replicate n false) size);
+      known = tt;
+    }

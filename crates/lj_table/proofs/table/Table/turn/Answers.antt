@@ -1,12 +1,14 @@
-use Rattle.std.proofs.Common.{◌≡◌, ◌∙◌, ◌↔◌, All, sym, ap, refl, subst, subst₂, true}
+use Rattle.std.proofs.Common.{◌≡◌, ◌∙◌, ◌↔◌, All, false, sym, ap, refl, subst, subst₂, true}
 use Rattle.lj_base.specs.Frames.{InFrame, index_of}
 use Rattle.lj_cover.specs.Instances.{IsRowOf, rows_at}
 use Rattle.lj_relax.specs.Found.{Evaluation, found_cost}
 use Rattle.lj_relax.specs.Steps.{IsLeastPrice}
 use Rattle.lj_relax.specs.Tickets.{snapshot, snapshot_of}
 use Rattle.lj_table.specs.Lowering.{AgreesWith}
-use Rattle.lj_table.specs.Tables.{Contents, Fits, contents_of, is_taken}
-use Rattle.lj_table.proofs.Publications.{table_is, taken_kept}
+use Rattle.lj_table.specs.Settling.{IsLater}
+use Rattle.lj_table.specs.Tables.{Contents, Fits, contents_of, mark_at}
+use Rattle.lj_table.proofs.Publications.{later_is, table_is}
+use Rattle.lj_table.proofs.Rested.{still_rested_same}
 use Rattle.lj_table.proofs.RowLists.{all_of}
 use Rattle.lj_table.proofs.table.Table.turn.Goals as goal
 
@@ -35,7 +37,7 @@ fits c =
     let us = c.self.inside.store.arena.uploads in
     record {
       frame = refl;
-      nodes = c.self.invariant.nodes;
+      nodes = c.self.invariant.table.nodes;
       rows = subst (All (IsRowOf us c.args.c)) (sym (rows_is c))
           (all_of (IsRowOf us c.args.c) (rows_at us c.args.c)
           (λ r h. (c.rows_are_of_uploads.ensures.rows us c.args.c r).0 h));
@@ -59,24 +61,24 @@ least c =
 pub invariant_of-self : goal.invariant_of-self
 unfolding evaluation
 invariant_of-self c =
-    table_is (contents_of c.self.inside.store) (contents_of c.lower_here-lowered.new.self) (evaluation c)
-    c.lower_here-lowered.result true c.index.result c.give_back.new.closed c.give_back.new.busy c.self.invariant
-    (fits c)
-    (inside c) (at c) c.lower_here-lowered.ensures c.give_back.ensures (agrees c) c.rows_are_of_uploads.ensures.rows
-    c.publish_keeps_good.ensures c.nodes_derive.ensures (inside c) (least c)
+    record {
+      table = table_is (contents_of c.self.inside.store) (contents_of c.lower_here-lowered.new.self) (evaluation c)
+          c.lower_here-lowered.result true c.index.result c.give_back.new.closed c.give_back.new.busy
+          c.self.invariant.table (fits c) (inside c) (at c) c.lower_here-lowered.ensures c.give_back.ensures (agrees c)
+          c.rows_are_of_uploads.ensures.rows c.publish_keeps_good.ensures c.nodes_derive.ensures (inside c) (least c);
+      known = still_rested_same c.self.inside.store.arena c.lower_here-lowered.new.self.arena
+          c.self.inside.store.bounds.items c.lower_here-lowered.new.self.bounds.items c.self.inside.rest
+          c.lower_here-lowered.ensures.frame c.lower_here-lowered.ensures.uploads c.lower_here-lowered.ensures.grown
+          c.self.invariant.known;
+    }
 
-pub returns-clause-taken : goal.returns-clause-taken
+pub returns-clause-later : goal.returns-clause-later
 unfolding evaluation
-returns-clause-taken c d h other =
-    subst (λ (x : Contents). InFrame x.arena.frame d
-    → is_taken (record (contents_of c.lower_here-lowered.new.self)
-    { closed = c.give_back.new.closed; busy = c.give_back.new.busy }) d
-    ≡ is_taken x d)
-    c.self.view_is
-    (λ k. taken_kept (contents_of c.self.inside.store) (contents_of c.lower_here-lowered.new.self) (evaluation c)
-    c.lower_here-lowered.result true c.index.result c.give_back.new.closed c.give_back.new.busy c.self.invariant
-    (fits c) (inside c) (at c) c.lower_here-lowered.ensures c.give_back.ensures (agrees c) d k other) h
-
-pub returns-clause-fits : goal.returns-clause-fits
-returns-clause-fits c q h =
-    c.lower_here-lowered.ensures.fits q (subst (λ (x : Contents). Fits x.arena q) (sym c.self.view_is) h)
+returns-clause-later c =
+    let was = subst (λ (t : Contents). mark_at t.arena.frame t.closed c.args.c ≡ false) (sym c.self.view_is)
+    c.requires.first.unmarked in
+    subst (λ (x : Contents). IsLater x (record (contents_of c.lower_here-lowered.new.self)
+    { closed = c.give_back.new.closed; busy = c.give_back.new.busy })) c.self.view_is
+    (later_is (contents_of c.self.inside.store) (contents_of c.lower_here-lowered.new.self) (evaluation c)
+    c.lower_here-lowered.result true c.index.result c.give_back.new.closed c.give_back.new.busy c.self.invariant.table
+    (fits c) (inside c) (at c) c.lower_here-lowered.ensures c.give_back.ensures (agrees c) refl was)
