@@ -73,19 +73,20 @@ fn accept_upload(table: &mut Table, up: Accepted) -> Result<bool, Memory> {
 /// One claim; whether it is of the cell. Nothing is claimed where the ticket is of another frame, or has too little
 /// room.
 pub fn claims(table: &mut Table, ticket: &mut Ticket, c: Cell) -> bool {
-    claim(table, ticket) == (Claimed::Cell { cell: c })
+    claim(table, ticket) == Some(Claimed::Cell { cell: c })
 }
 
-/// One claim; whether no cell was open.
+/// One claim; whether it was made, and no cell was open.
 pub fn claims_none(table: &mut Table, ticket: &mut Ticket) -> bool {
-    claim(table, ticket) == Claimed::NoneOpen
+    claim(table, ticket) == Some(Claimed::NoneOpen)
 }
 
-fn claim(table: &mut Table, ticket: &mut Ticket) -> Claimed {
+// None where the ticket may not be used.
+fn claim(table: &mut Table, ticket: &mut Ticket) -> Option<Claimed> {
     if ticket.frame() == table.frame() && ticket.room() >= table.accepted().len() as u64 {
-        table.claim(ticket)
+        Some(table.claim(ticket))
     } else {
-        Claimed::NoneOpen
+        None
     }
 }
 

@@ -36,9 +36,9 @@ fn comes_to(
     other_bound: u64,
 ) -> Result<bool, Memory> {
     let mut table = start(alloc, top)?;
-    accept(alloc, &mut table, design)?;
+    let accepted = accept(alloc, &mut table, design)?;
     settle(alloc, &mut table)?;
-    Ok(has_bound(&table, top, bound) && has_bound(&table, other, other_bound))
+    Ok(accepted && has_bound(&table, top, bound) && has_bound(&table, other, other_bound))
 }
 
 #[test]
