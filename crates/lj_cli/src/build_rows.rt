@@ -23,7 +23,7 @@ pub(crate) const SEVEN: &[u8] = b"report
 7 3 2 9 7
 ";
 
-// The same with the Fano plane.
+// What the least bounds of the frame (7,3,2) are with the Fano plane uploaded.
 pub(crate) const FANO_SEVEN: &[u8] = b"report
 3 2 1 2 2 optimal
 4 2 1 2 2 optimal
@@ -317,7 +317,7 @@ fn a_client_holds_at_most_262144_blocks(rt: HostRuntime) -> Result<(), Fail> {
 }
 
 // How many lines there are.
-fn lines_in(bytes: &[u8]) -> usize {
+pub(crate) fn lines_in(bytes: &[u8]) -> usize {
     bytes.iter().filter(|byte| **byte == b'\n').count()
 }
 

@@ -12,6 +12,10 @@ mod check;
 mod count_rows;
 mod coverings;
 mod excess;
+#[cfg(test)]
+mod failing_rows;
+#[cfg(test)]
+mod gate_rows;
 mod generate;
 mod given;
 mod greedy;

@@ -28,7 +28,7 @@ pub(crate) fn run<R: Threads + Wait + Sync>(
     run_into(rt, alloc, line, input, sink)
 }
 
-// The same, with a sink that the caller makes.
+// The status of a run that writes to this sink, and the sink.
 pub(crate) fn run_into<R: Threads + Wait + Sync>(
     rt: &R,
     alloc: Global,

@@ -1,4 +1,5 @@
 use crate::rows::run;
+use crate::word_rows::USAGE;
 use crate::{big_run, serve_run};
 use lj_base::{MemSink, MemSource};
 use lj_gate::FreeGate;
@@ -9,7 +10,7 @@ use std::test::Fail;
 use std::thread::Threads;
 
 // A client that uploads, reads, settles, and reads again.
-const READER: &[u8] = b"frame 7 3 2
+pub(crate) const READER: &[u8] = b"frame 7 3 2
 client ann
 upload 5 3 2
 1 2 3
@@ -207,9 +208,11 @@ fn odd_scripts_are_served(rt: HostRuntime) -> Result<(), Fail> {
 }
 
 #[test]
-fn words_for_workers_are_needed(rt: HostRuntime) -> Result<(), Fail> {
+fn words_that_serve_and_big_refuse(rt: HostRuntime) -> Result<(), Fail> {
     let lines = [
         "serve",
+        "serve --workers",
+        "serve --workers -- 1",
         "serve --workers 0",
         "serve --workers 65",
         "serve --workers 1 --workers 1",
@@ -217,6 +220,7 @@ fn words_for_workers_are_needed(rt: HostRuntime) -> Result<(), Fail> {
         "serve --workers 1 5",
         "serve -- --workers 1",
         "big 2",
+        "big 2 --workers",
         "big --workers 1",
         "big 1 --workers 1",
         "big 7 --workers 1",
@@ -226,7 +230,7 @@ fn words_for_workers_are_needed(rt: HostRuntime) -> Result<(), Fail> {
     ];
     for line in lines {
         let (status, sink) = run(&rt, rt.alloc(), line, READER)?;
-        assert!(rt; sink.bytes().starts_with(b"usage: ljcr check"), "of {line}");
+        assert_eq!(rt; sink.bytes(), USAGE, "of {line}");
         assert_eq!(rt; status, 2, "of {line}");
     }
     Ok(())
@@ -235,37 +239,62 @@ fn words_for_workers_are_needed(rt: HostRuntime) -> Result<(), Fail> {
 #[test]
 fn generated_scripts_are_served(rt: HostRuntime) -> Result<(), Fail> {
     let two = b"big 2\nblocks 1\nbound 4 4 3 1\nbound 3 3 2 1\ncells 4\nsum 9\nrebuilt 0\n";
-    let five = b"big 5\nblocks 1240\nbound 32 4 3 1240\nbound 31 3 2 155\ncells 331\nsum ";
+    let five =
+        b"big 5\nblocks 1240\nbound 32 4 3 1240\nbound 31 3 2 155\ncells 331\nsum 32956\nrebuilt 0\n";
     let (status, sink) = run(&rt, rt.alloc(), "big 2 --workers 3", READER)?;
     assert_eq!(rt; sink.bytes(), two.as_slice());
     assert_eq!(rt; status, 0);
     let (status, sink) = run(&rt, rt.alloc(), "big 5 --workers 4", READER)?;
-    assert!(rt; sink.bytes().starts_with(five));
+    assert_eq!(rt; sink.bytes(), five.as_slice());
     assert_eq!(rt; status, 0);
     let (_, other) = run(&rt, rt.alloc(), "big 5 --workers=1", READER)?;
     assert_eq!(rt; sink.bytes(), other.bytes());
     Ok(())
 }
 
-// A run of `serve` on the input ends with the report that `build` prints, and with whether the table was made anew.
+// Whether runs of `serve` on the input end with the report of this build, which begins with `mark`, and with whether
+// the table was made anew; all with status 0.
+fn ends_as<R: Threads + Wait + Sync>(
+    rt: &R,
+    alloc: Global,
+    input: &[u8],
+    build: &str,
+    mark: &[u8],
+    lines: [&str; 4],
+) -> Result<bool, Fail> {
+    let (status, sink) = run(rt, alloc, build, input)?;
+    let report = from(sink.bytes(), mark);
+    let text = joined(alloc, &[report, b"rebuilt 0\n"])?;
+    let mut equal = status == 0 && report.len() > mark.len();
+    for line in lines {
+        let (ended, sink) = run(rt, alloc, line, input)?;
+        equal = equal && ended == 0 && from(sink.bytes(), mark) == text.as_slice();
+    }
+    Ok(equal)
+}
+
+// Whether the reports of `build` and of `serve` on the input are equal, as text and as JSON.
 fn reports_are_equal<R: Threads + Wait + Sync>(
     rt: &R,
     alloc: Global,
     input: &[u8],
 ) -> Result<bool, Fail> {
-    let (_, sink) = run(rt, alloc, "build", input)?;
-    let text = joined(alloc, &[from(sink.bytes(), b"report\n"), b"rebuilt 0\n"])?;
-    let mut equal = true;
-    for line in [
+    let lines = [
         "serve --workers 1",
         "serve --workers 2",
         "serve --workers 8",
         "serve --workers 64",
-    ] {
-        let (_, sink) = run(rt, alloc, line, input)?;
-        equal = equal && from(sink.bytes(), b"report\n") == text.as_slice();
-    }
-    Ok(equal && text.len() > 17)
+    ];
+    let as_json = [
+        "serve --workers 1 --json",
+        "serve --workers 2 --json",
+        "serve --workers 8 --json",
+        "serve --workers 64 --json",
+    ];
+    Ok(
+        ends_as(rt, alloc, input, "build", b"report\n", lines)?
+            && ends_as(rt, alloc, input, "build --json", b"{\"cells\":", as_json)?,
+    )
 }
 
 #[test]

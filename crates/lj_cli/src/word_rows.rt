@@ -44,7 +44,7 @@ fn good_words_call_for_their_command(rt: HostRuntime) -> Result<(), Fail> {
     Ok(())
 }
 
-const USAGE: &[u8] =
+pub(crate) const USAGE: &[u8] =
     b"usage: ljcr check V K T [--workers N] | build [--json] | serve --workers N [--json] | gen M \
     | big M --workers N | excess V K T | greedy V K T | reduce V K T\n";
 
