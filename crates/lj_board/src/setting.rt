@@ -10,6 +10,7 @@ pub trait Setting {
     ghost allowed: { Upload → Type 0 };
 }
 
+// A call at `Brand` chooses the members in its proof, and so names any run, whatever they are here.
 impl Setting for Brand {
     ghost frame = { record { top = record { v = 1; k = 1; t = 0 } } };
 
