@@ -313,6 +313,7 @@ impl<J: Setting> Held<J> {
         requires inside { InFrame J.frame c }
         requires seen { seen ≡ seen_of pass.old c }
         ensures plan { IfOk result (λ o. IfSome o (IsShownPlan J.frame J.allowed c pass.old pass.new)) }
+        ensures above { IfOk result (λ o. IfNone o (seen < (state_of self.now.table).bounds c)) }
         ensures none { IfOk result (λ o. IfNone o (pass.new ≡ pass.old)) }
         ensures err { OnErr result (pass.new ≡ pass.old) }
         ensures falls { NoneRises pass.old pass.new }

@@ -2,8 +2,14 @@ use Rattle.std.proofs.Common.{rules, ◌≡◌, sym, ◌∙◌, map-id}
 use Rattle.std.proofs.lemmas.Iterator.Consumers.{YieldsList-end}
 use Rattle.std.proofs.lemmas.Iterator.Adapters.{YieldsList-from_vec}
 use Rattle.lj_script.specs.Values.{ScriptValue}
-use Rattle.lj_build.proofs.Sections.{built_all}
+use Rattle.lj_build.proofs.Sections.{built_all, built_more}
 use Rattle.lj_build.proofs.builds.build.Goals as goal
+
+pub loop-section-preserved : goal.loop-section-preserved
+loop-section-preserved g c =
+    built_more c.script.inside.frame c.loop-section.yielded c.loop-section.ends.items c.push.new.self.items
+    c.in-Some.section c.in_ok-end.end c.loop-section.table c.build_section.new.table c.loop-section.invariant
+    c.in_ok-end.ensures c.in_ok-push.ensures.items
 
 pub returns : goal.returns
 returns g c =
