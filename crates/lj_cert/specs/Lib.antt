@@ -1,0 +1,7 @@
+pub mod Values
+pub mod LineForms
+pub mod Certificates
+pub mod Faults
+pub mod Unfolding
+pub mod Good
+pub mod Rests
