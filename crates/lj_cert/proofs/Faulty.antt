@@ -1,5 +1,5 @@
 -- Lines that have not the form of their place.
-use Rattle.std.proofs.Common.{◌≡◌, ◌⊎◌, ℕ, ◌+◌, List, codes, length, refl, sym, subst, inl, inr}
+use Rattle.std.proofs.Common.{◌≡◌, ℕ, ◌+◌, List, codes, length, refl, sym, subst, inl, inr}
 use Rattle.lj_blockfile.specs.BlockLines.{IsBlockLine}
 use Rattle.lj_cover.specs.Rules.{Upload}
 use Rattle.lj_cert.specs.Certificates.{Offers, Progress, TakesAt, progress}

@@ -1,5 +1,5 @@
 -- Lists of fields, read from the left.
-use Rattle.std.proofs.Common.{◌≡◌, ℕ, List, [], ◌∷◌, ◌++◌, refl, sym, subst, ap, ◌∙◌, append_assoc, append-nil}
+use Rattle.std.proofs.Common.{◌≡◌, ℕ, List, [], ◌∷◌, ◌++◌, sym, subst, ap, ◌∙◌, append_assoc}
 use Rattle.std.proofs.Common.{arith, inl, inr, length}
 use Rattle.std.specs.List.{AllZip}
 use Rattle.lj_cert.specs.Faults.{IsBadOr}

@@ -1,5 +1,5 @@
 -- The bounds of a good certificate are the least costs of derivations.
-use Rattle.std.proofs.Common.{◌≡◌, ℕ, ◌+◌, ◌-◌, ◌<◌, ◌≤◌, false, List, [], ◌∷◌, ◌++◌, Some, length, map, get_or}
+use Rattle.std.proofs.Common.{◌≡◌, ℕ, ◌-◌, ◌<◌, ◌≤◌, false, List, [], ◌∷◌, ◌++◌, Some, length, get_or}
 use Rattle.std.proofs.Common.{slice_get}
 use Rattle.std.proofs.Common.{arith, refl, sym, ap, ◌∙◌, subst, inl, inr}
 use Rattle.std.proofs.lemmas.List.{get_or-map, length-map}
@@ -7,19 +7,18 @@ use Rattle.std.proofs.lemmas.List.Elements.{All-from_recursion}
 use Rattle.std.proofs.lemmas.Option.{get_or_from_slice_get}
 use Rattle.std.specs.List.{AllByRecursion}
 use Rattle.lj_base.specs.Bounds.{at_cell}
-use Rattle.lj_base.specs.Cells.{IsCell, Triple}
+use Rattle.lj_base.specs.Cells.{Triple}
 use Rattle.lj_base.specs.Colex.{choose}
 use Rattle.lj_base.specs.Frames.{InFrame, Top, cells_of, index_of, size_of}
 use Rattle.lj_base.proofs.Lists.{AllByRecursion-at, AllByRecursion-both, AllByRecursion-push}
-use Rattle.lj_cover.specs.Derivations.{DerivableIn, IsDerivation, IsFrom, IsIn, IsLeast, Tree, node, none, root_cell}
-use Rattle.lj_cover.specs.Derivations.{tree_cost}
-use Rattle.lj_cover.specs.Instances.{AreUploads, IsInstance, price}
-use Rattle.lj_cover.specs.Rules.{IsCovering, One, Rule, Upload, rule_cell, rule_cost, triple}
+use Rattle.lj_cover.specs.Derivations.{DerivableIn, IsDerivation, IsFrom, IsIn, IsLeast, Tree, node, none}
+use Rattle.lj_cover.specs.Instances.{AreUploads, price}
+use Rattle.lj_cover.specs.Rules.{IsCovering, One, Upload, rule_cell, rule_cost, triple}
 use Rattle.lj_deriv.specs.Trees.{tree_at}
-use Rattle.lj_relax.specs.States.{Good, IsBaseUse, State}
+use Rattle.lj_relax.specs.States.{Good, State}
 use Rattle.lj_cert.specs.Good.{IsChecked, IsGood, IsMet, bounds_of}
-use Rattle.lj_cert.specs.Rests.{AreLeast, RestValue}
-use Rattle.lj_cert.specs.Unfolding.{Unfold, UnfoldsTo}
+use Rattle.lj_cert.specs.Rests.{AreLeast}
+use Rattle.lj_cert.specs.Unfolding.{Unfold}
 use Rattle.lj_cert.specs.Values.{CertValue, IsFormed}
 use Rattle.lj_cert.specs.declared.certs.CertBound.{CertBound}
 use Rattle.lj_cert.specs.declared.certs.CertNode.{CertNode}

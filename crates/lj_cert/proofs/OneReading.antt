@@ -1,6 +1,6 @@
 -- Bytes spell one certificate at most, or else have one fault at most.
-use Rattle.std.proofs.Common.{◌≡◌, ◌⊎◌, ℕ, ◌+◌, ◌<◌, ◌≤◌, List, [], ◌∷◌, ◌++◌, None, Some, codes, length, map}
-use Rattle.std.proofs.Common.{length-append, arith, refl, sym, ap, ◌∙◌, subst, inl, inr, ⊎_elim}
+use Rattle.std.proofs.Common.{◌≡◌, ◌⊎◌, ℕ, ◌+◌, List, [], ◌∷◌, ◌++◌, None, Some, codes, length, map}
+use Rattle.std.proofs.Common.{length-append, arith, refl, sym, ap, ◌∙◌, subst, inl, inr}
 use Rattle.std.specs.List.{AllZip}
 use Rattle.lj_base.specs.Frames.{Top}
 use Rattle.lj_blockfile.specs.BlockLines.{IsBlockLine}
@@ -18,7 +18,6 @@ use Rattle.lj_cert.specs.LineForms.{AreNumbers, IsBoundLine, IsFrameLine, IsNode
 use Rattle.lj_cert.specs.Values.{CertValue}
 use Rattle.lj_cert.specs.declared.certs.CertBound.{CertBound}
 use Rattle.lj_cert.specs.declared.certs.CertNode.{CertNode}
-use Rattle.lj_cert.specs.declared.limits.TheConstants.{MAX_CERT_UPLOADS}
 use Rattle.lj_cert.specs.declared.faults.CertFault.{CertFault}
 use Rattle.lj_cert.specs.declared.faults.CertFault.TheVariants.{BadLine, TooManyUploads, Unended, Memory}
 use Rattle.lj_cert.specs.declared.reading.Stage.{Stage}

@@ -1,16 +1,14 @@
 -- How far lines were read, and what they say.
-use Rattle.std.proofs.Common.{◌≡◌, ◌⊎◌, ℕ, List, [], ◌∷◌, ◌++◌, length, map, refl, sym, ap, ◌∙◌, subst, inl, inr}
+use Rattle.std.proofs.Common.{◌≡◌, ◌⊎◌, ℕ, List, [], ◌∷◌, ◌++◌, map, refl, sym, ap, ◌∙◌, subst, inl, inr}
 use Rattle.std.proofs.Common.{append_assoc, append-nil}
 use Rattle.lj_base.specs.Frames.{Top}
 use Rattle.lj_text.specs.Lines.{line_text, text_lines}
 use Rattle.lj_text.specs.declared.lines.Line.{Line}
 use Rattle.lj_cert.specs.Certificates.{Leads, Progress, Says, Takes, TakesFrame, begun, texts_of}
 use Rattle.lj_cert.specs.Faults.{IsCertFault, IsFaulty, IsFaultyOr, IsFrameFault}
-use Rattle.lj_cert.specs.Values.{CertValue}
 use Rattle.lj_cert.specs.declared.faults.CertFault.{CertFault}
 use Rattle.lj_cert.specs.declared.faults.CertFault.TheVariants.{BadLine, TooManyUploads, Unended, Memory}
-use Rattle.lj_cert.specs.declared.reading.Stage.{Stage}
-use Rattle.lj_cert.specs.declared.reading.Stage.TheVariants.{Uploads, Ended}
+use Rattle.lj_cert.specs.declared.reading.Stage.TheVariants.{Ended}
 
 -- the lines of the bytes before those that are left say this
 pub record IsReached (bytes : List ℕ) (p : Progress) (left : List Line) : Type 0 where

@@ -1,11 +1,10 @@
 -- What a reading keeps while lines are taken.
-use Rattle.std.proofs.Common.{◌≡◌, ℕ, zero, suc, ◌+◌, ◌<◌, ◌≤◌, List, [], ◌∷◌, ◌++◌, Some, length, map, take}
+use Rattle.std.proofs.Common.{◌≡◌, ℕ, zero, suc, ◌+◌, ◌<◌, List, [], ◌∷◌, ◌++◌, Some, length, map, take}
 use Rattle.std.proofs.Common.{length-append}
-use Rattle.std.proofs.Common.{slice_get, arith, refl, sym, ap, ◌∙◌, subst}
+use Rattle.std.proofs.Common.{slice_get, arith, refl, sym, ap, ◌∙◌}
 use Rattle.std.proofs.lemmas.List.{take_all}
-use Rattle.std.specs.List.{AllByRecursion}
 use Rattle.lj_base.specs.Cells.{Triple}
-use Rattle.lj_base.specs.Frames.{InFrame, Top, cells_of, size_of}
+use Rattle.lj_base.specs.Frames.{InFrame, Top, cells_of}
 use Rattle.lj_base.proofs.Lists.{AllByRecursion-push}
 use Rattle.lj_cover.specs.Rules.{Upload}
 use Rattle.lj_cert.specs.Certificates.{IsReading}

@@ -1,4 +1,4 @@
-use Rattle.std.proofs.Common.{◌≡◌, ◌∙◌, ℕ, List, None, Some, ap, take}
+use Rattle.std.proofs.Common.{◌≡◌, ◌∙◌, None, Some, ap, take}
 use Rattle.lj_text.specs.Numbers.{number_of}
 use Rattle.lj_cert.proofs.Colons.{before_colon, colon-found, colon-none}
 use Rattle.lj_cert.proofs.fields.cut_number.Goals as goal

@@ -1,4 +1,4 @@
-use Rattle.std.proofs.Common.{[], ◌∷◌}
+use Rattle.std.proofs.Common.{[]}
 use Rattle.lj_cert.proofs.Unique.{joined_rest}
 use Rattle.lj_cert.proofs.fields.two_joined.Goals as goal
 

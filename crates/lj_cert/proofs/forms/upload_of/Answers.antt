@@ -1,5 +1,4 @@
-use Rattle.std.proofs.Common.{◌≡◌, ◌∷◌, arith, codes, refl}
-use Rattle.lj_text.specs.Tokens.{words_of}
+use Rattle.std.proofs.Common.{◌≡◌, arith, codes, refl}
 use Rattle.lj_cert.proofs.forms.upload_of.Goals as goal
 
 pub returns-clause-some : goal.returns-clause-some

@@ -1,4 +1,4 @@
-use Rattle.std.proofs.Common.{◌≡◌, ℕ, List, ◌∷◌}
+use Rattle.std.proofs.Common.{◌≡◌, ◌∷◌}
 use Rattle.lj_cert.proofs.nodes.read_head.Goals as goal
 
 pub returns-in_err-v-clause-none : goal.returns-in_err-v-clause-none

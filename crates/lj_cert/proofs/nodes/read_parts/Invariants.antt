@@ -1,7 +1,4 @@
-use Rattle.std.proofs.Common.{List, ◌++◌}
-use Rattle.std.specs.List.{AllZip}
 use Rattle.lj_cert.specs.LineForms.{IsPartField}
-use Rattle.lj_cert.specs.declared.certs.CertPart.{CertPart}
 use Rattle.lj_cert.proofs.FieldLists.{IsReadUpTo}
 use Rattle.lj_cert.proofs.nodes.read_parts.Given as goal
 

@@ -1,4 +1,4 @@
-use Rattle.std.proofs.Common.{ℕ, List, subst, sym}
+use Rattle.std.proofs.Common.{subst, sym}
 use Rattle.lj_base.specs.Cells.{Triple}
 use Rattle.lj_blockfile.specs.BlockLines.{IsBlockLine}
 use Rattle.lj_cert.proofs.reading.block_in.Goals as goal

@@ -1,4 +1,4 @@
-use Rattle.std.proofs.Common.{◌≡◌, refl}
+use Rattle.std.proofs.Common.{refl}
 use Rattle.lj_cert.proofs.reading.read_frame.Goals as goal
 
 pub returns-in-None-clause-fault : goal.returns-in-None-clause-fault

@@ -1,4 +1,4 @@
-use Rattle.std.proofs.Common.{◌≡◌, inr}
+use Rattle.std.proofs.Common.{inr}
 use Rattle.lj_cert.proofs.Faulty.{bad_block}
 use Rattle.lj_cert.proofs.reading.Reading.take_block.Goals as goal
 

@@ -1,4 +1,4 @@
-use Rattle.std.proofs.Common.{◌≡◌, inr, subst, sym}
+use Rattle.std.proofs.Common.{inr, subst, sym}
 use Rattle.lj_cert.specs.Values.{IsFresh}
 use Rattle.lj_cert.proofs.Faulty.{bad_upload}
 use Rattle.lj_cert.proofs.Unique.{same_upload}
