@@ -1,8 +1,8 @@
 #!/bin/sh
-# Counts how often `ljcr serve` takes the lock of its table, beside the number of `bound` commands that its clients
+# Counts how often `ljcr serve` calls the lock of its table, beside the number of `bound` commands that its clients
 # send: two runs of sixteen clients and four workers over the same frame, with 10 and with 4,000 such commands a client.
-# The clients read without a lock where both numbers of lock sections are equal. It needs valgrind, whose callgrind
-# counts the calls, and a program with the names of its functions, as `rt run` builds it.
+# Only calls that the compiler left as calls are counted: a lock that is taken in line, as in the workers' claims, is
+# not. It needs valgrind, and a program with the names of its functions, as `rt run` builds it.
 # usage: readers.sh LJCR
 set -eu
 ljcr=$1
@@ -33,6 +33,6 @@ for each in 10 4000; do
     valgrind --tool=callgrind --callgrind-out-file="$work/profile" "$ljcr" serve --workers 4 < "$work/script" \
         > "$work/output" 2> "$work/errors"
     replies=$(grep -c '^bound' "$work/output")
-    echo "$replies replies to bound, $(calls 'Mutex::lock') lock sections," \
+    echo "$replies replies to bound, $(calls 'Mutex::lock') calls of the lock," \
         "of them $(calls 'Shared::publish') publications"
 done
