@@ -17,6 +17,9 @@ fn cuts_of_three_fours_to_five_points(rt: HostRuntime) -> Result<(), Fail> {
     want[3] = 2;
     want[4] = 1;
     assert_eq!(rt; upload.counts(5), want);
+    let copy = upload.copy_without_counts(alloc)?;
+    assert_eq!(rt; copy.counts(5), want);
+    assert!(rt; copy.same(&upload));
     Ok(())
 }
 

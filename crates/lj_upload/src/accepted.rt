@@ -212,10 +212,6 @@ mod tests {
         assert_eq!(rt; again.least_pair(), (0, 1, 1));
         assert_eq!(rt; again.counts(2), counts);
         assert!(rt; again.same(&upload));
-        let bare = upload.copy_without_counts(alloc)?;
-        assert_eq!(rt; bare.least_pair(), (0, 1, 1));
-        assert_eq!(rt; bare.counts(2), counts);
-        assert!(rt; bare.same(&upload));
         Ok(())
     }
 }
