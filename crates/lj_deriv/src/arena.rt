@@ -200,8 +200,8 @@ impl Arena {
     }
 
     /// The derivation of a node, which stands alone: the nodes that it reaches, in order, and the uploads that they
-    /// name, in order. Besides these it takes memory for one mark for each node up to this one, and for a mark and a
-    /// number for each upload.
+    /// name, in order. Besides these it takes memory for one mark for each node up to this one, and for two marks and a
+    /// number for each upload. An upload is copied without its table of counts where no induced node names it.
     pub fn plan(&self, alloc: Global, root: u64) -> Result<Plan, Memory>
         requires { root < length self.now.rules }
         ensures plan { IfOk result (IsPlanOf self.now root) }

@@ -29,4 +29,5 @@ loop-block-preserved c =
 
 pub returns : goal.returns
 returns c =
-    c.loop-block.invariant ∙ ap (cut_counts c.args.w) (take_all c.loop-block.block-index c.args.blocks.now (omega arith))
+    c.loop-block.invariant
+    ∙ ap (cut_counts c.args.w) (take_all c.loop-block.block-index c.args.blocks.now (omega arith))
