@@ -1,3 +1,4 @@
+pub mod Admission
 pub mod Copies
 pub mod Nodes
 pub mod Plans

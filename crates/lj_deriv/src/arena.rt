@@ -370,7 +370,7 @@ impl Arena {
     }
 
     // What one cut of `l` points costs.
-    fn cut_cost(&self, cell: Cell, l: u64, child: u64) -> u64
+    pub(crate) fn cut_cost(&self, cell: Cell, l: u64, child: u64) -> u64
         requires { cell.k < l → child < length self.now.rules }
         ensures { result ≡ cut_cost cell.t cell.k (tree_cost (node_tree self.now child)) l }
     {

@@ -1,6 +1,7 @@
 //! Derivations: an arena of nodes that only grows, and plans that stand alone.
 #![tactic(auto)]
 
+mod admitting;
 mod arena;
 mod bounded_lists;
 mod children;
