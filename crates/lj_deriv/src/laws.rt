@@ -1,8 +1,10 @@
-ghost use Rattle.std.specs.Prelude.{◌≡◌, ℕ, ◌+◌, ◌<◌, ◌≤◌, length};
+ghost use Rattle.std.specs.Prelude.{◌≡◌, ℕ, ◌+◌, ◌<◌, ◌≤◌, List, [], ◌∷◌, ◌++◌, length};
 ghost use Rattle.lj_cover.specs.Derivations.{Tree, Trees, node, tree_cost};
-ghost use Rattle.lj_cover.specs.Rules.{Rule};
+ghost use Rattle.lj_cover.specs.Rules.{Rule, Upload};
 ghost use Rattle.lj_cover.specs.Sources.{IsBlockwise, source};
+ghost use Rattle.lj_deriv.specs.Nodes.{build, trees_of};
 ghost use Rattle.lj_deriv.specs.Positions.{before, source_at, tree_share, tree_source};
+ghost use Rattle.lj_deriv.specs.declared.rules.Rule.{Rule as NodeRule};
 
 use lj_cover::laws::blockwise_rules_join;
 
@@ -18,3 +20,12 @@ pub fn before_law()
 {
     blockwise_rules_join();
 }
+
+/// There is one derivation for each node; one node more has that of its rule over the nodes before it, and those of the
+/// others stay.
+pub fn trees_law()
+    ensures count { (us : List Upload) (rs : List NodeRule) → length (trees_of us rs) ≡ length rs }
+    ensures push { (us : List Upload) (rs : List NodeRule) (r : NodeRule)
+        → trees_of us (rs ++ r ∷ []) ≡ trees_of us rs ++ build us (trees_of us rs) r ∷ [] }
+    ensures first { (us : List Upload) → trees_of us [] ≡ [] }
+{}
