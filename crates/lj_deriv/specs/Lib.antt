@@ -1,5 +1,6 @@
 pub mod Admission
 pub mod Copies
+pub mod Forests
 pub mod Nodes
 pub mod Plans
 pub mod Positions

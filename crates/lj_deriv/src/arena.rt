@@ -6,6 +6,7 @@ ghost use Rattle.lj_cover.specs.Derivations.{IsIn, root_cell, tree_cost, tree_co
 ghost use Rattle.lj_cover.specs.Rules.{IsCovering, cut_cost, sum_of_products};
 ghost use Rattle.lj_cover.specs.Instances.{cut_counts, row_price};
 ghost use Rattle.lj_cover.specs.Operations.{cut, has_point};
+ghost use Rattle.lj_deriv.specs.Forests.{IsForestOf};
 ghost use Rattle.lj_deriv.specs.Nodes.{IsDerivedIn, node_tree, plan_tree, rule_tree};
 ghost use Rattle.lj_deriv.specs.Plans.{IsPlanOf};
 ghost use Rattle.lj_deriv.specs.Positions.{source_at, tree_share, tree_source};
@@ -13,7 +14,8 @@ ghost use Rattle.lj_deriv.specs.Trees.{children_of, sizes_of, trees_at, trees_of
 ghost use Rattle.lj_deriv.specs.Validity.{AreValid, IsNode, IsValid};
 ghost use Rattle.lj_upload.specs.Uploads.{IsAccepted};
 
-use crate::copying::copy_reached;
+use crate::copying::{copy_reached, copy_roots};
+use crate::forests::Forest;
 use crate::limits::{MAX_ARENA_UPLOADS, MAX_NODES};
 use crate::plans::Plan;
 use crate::rules::{Part, Rule};
@@ -210,6 +212,18 @@ impl Arena {
         let nodes = self.len();
         prove!(root < nodes);
         Plan::of(alloc, copy_reached(self, alloc, root)?)
+    }
+
+    /// The derivations of some nodes, which stand alone: the nodes that these reach, each once, in order, and the
+    /// uploads that they name, in order. Besides these it takes memory for one mark for each node, and for two marks
+    /// and a number for each upload. An upload is copied without its table of counts where no induced node names it.
+    pub fn forest(&self, alloc: Global, roots: &[u64]) -> Result<Forest, Memory>
+        requires { AllByRecursion (λ i. i < length self.now.rules) roots.now }
+        ensures { IfOk result (IsForestOf self.now roots.now) }
+    {
+        let nodes = self.len();
+        prove!(nodes <= MAX_NODES);
+        copy_roots(self, alloc, roots)
     }
 
     /// An upload, by its number.

@@ -1,16 +1,19 @@
-ghost use Rattle.std.specs.Prelude.{◌≡◌, ℕ, ◌+◌, ◌<◌, ◌≤◌, ◌⊎◌, ◌↔◌, true, false, [], ◌∷◌, length};
+ghost use Rattle.std.specs.Prelude.{◌≡◌, ℕ, ◌+◌, ◌<◌, ◌≤◌, ◌⊎◌, ◌↔◌, true, false, [], ◌∷◌, length, map};
 ghost use Rattle.std.specs.Prelude.{IfOk, OnOk, slice_index, slice_index_or};
 ghost use Rattle.std.specs.List.{AllByRecursion, Contains};
 ghost use Rattle.lj_base.specs.Blocks.{Ascends};
+ghost use Rattle.lj_deriv.specs.Copies.{AreAscending, AreNamedBy, HasUploads, IsClosed, IsCopyOf, IsCopying};
+ghost use Rattle.lj_deriv.specs.Copies.{IsMarked, IsMarkedFrom, IsNamedAmong, IsNextCopy, IsReach};
+ghost use Rattle.lj_deriv.specs.Copies.{node_children, node_uploads, place_in};
+ghost use Rattle.lj_deriv.specs.Forests.{IsForestOf};
 ghost use Rattle.lj_deriv.specs.Nodes.{steps_of};
 ghost use Rattle.lj_deriv.specs.Plans.{IsPlanOf, IsWhole};
 ghost use Rattle.lj_deriv.specs.Trees.{uploads_of};
-ghost use Rattle.lj_deriv.specs.Copies.{AreNamedBy, HasUploads, IsCopying, IsMarked, IsMarkedFrom, IsNamedAmong};
-ghost use Rattle.lj_deriv.specs.Copies.{IsNextCopy, IsReach, node_children, node_uploads};
 
 use crate::arena::Arena;
+use crate::forests::Forest;
 use crate::limits::MAX_NODES;
-use crate::renumbering::renumbered;
+use crate::renumbering::{place_in, renumbered};
 use crate::rules::Rule;
 use lj_base::Memory;
 use lj_cover::laws::sizes_of_cuts;
@@ -33,16 +36,49 @@ pub fn copy_reached(arena: &Arena, alloc: Global, root: u64) -> Result<Arena, Me
     ensures plan { IfOk result (λ p. IsPlanOf arena.now root (steps_of p)) }
     ensures whole { IfOk result (λ p. IsWhole (steps_of p)) }
 {
-    let numbers = reached(arena, alloc, root)?;
-    let named = uploads_named(arena, alloc, &numbers, root)?;
-    let counted = uploads_counted(arena, alloc, &numbers, root)?;
+    let numbers = reached(arena, alloc, &[root], root + 1)?;
+    copied(arena, alloc, &numbers)
+}
+
+/// Copies the nodes that the roots reach, in order, and the uploads that they name, in order, and finds the roots among
+/// them. Besides these it takes memory for one mark for each node, and for two marks and a number for each upload.
+pub fn copy_roots(arena: &Arena, alloc: Global, roots: &[u64]) -> Result<Forest, Memory>
+    requires there { AllByRecursion (λ i. i < length arena.now.rules) roots.now }
+    requires few { length arena.now.rules ≤ MAX_NODES }
+    ensures { IfOk result (IsForestOf arena.now roots.now) }
+{
+    let numbers = reached(arena, alloc, roots, arena.len())?;
+    let nodes = copied(arena, alloc, &numbers)?;
+    let places = places_of(alloc, &numbers, roots)?;
+    Ok(Forest::of(nodes, places))
+}
+
+// The place of each root among the numbers.
+fn places_of(alloc: Global, numbers: &[u64], roots: &[u64]) -> Result<Vec<u64>, Memory>
+    requires { AreAscending numbers.now }
+    ensures { IfOk result (λ v. v.items ≡ map (place_in numbers.now) roots.now) }
+{
+    let mut places = Vec::new(alloc);
+    for root in roots {
+        places.push(place_in(numbers, *root))?;
+    }
+    Ok(places)
+}
+
+// Copies these nodes, and the uploads that they name.
+fn copied(arena: &Arena, alloc: Global, numbers: &[u64]) -> Result<Arena, Memory>
+    requires { IsClosed arena.now numbers.now }
+    ensures { IfOk result (λ p. IsCopyOf arena.now numbers.now p) }
+{
+    let named = uploads_named(arena, alloc, numbers)?;
+    let counted = uploads_counted(arena, alloc, numbers)?;
     let mut copying = copied_uploads(arena, alloc, &named, &counted)?;
     copying.plan.reserve(numbers.len() as u64)?;
     for _node in 0..numbers.len() {
-        copying.push_next(arena, &numbers, &named, root);
+        copying.push_next(arena, numbers, &named);
     }
-    let copied = copying.plan.len();
-    prove_eq!(copied, numbers.len() as u64);
+    let count = copying.plan.len();
+    prove_eq!(count, numbers.len() as u64);
     let Copying { plan, .. } = copying;
     Ok(plan)
 }
@@ -97,24 +133,23 @@ impl Copying {
     }
 
     // Copies the first of these nodes that is not copied.
-    fn push_next(&mut self, arena: &Arena, numbers: &[u64], named: &[u64], root: u64)
-        requires there { root < length arena.now.rules }
+    fn push_next(&mut self, arena: &Arena, numbers: &[u64], named: &[u64])
         requires more { length self.old.plan.rules < length numbers.now }
-        requires copying { IsCopying arena.now root numbers.now named.now self.old.plan self.old.uploads.items }
-        ensures copying { IsCopying arena.now root numbers.now named.now self.new.plan self.new.uploads.items }
+        requires copying { IsCopying arena.now numbers.now named.now self.old.plan self.old.uploads.items }
+        ensures copying { IsCopying arena.now numbers.now named.now self.new.plan self.new.uploads.items }
         ensures len { length self.new.plan.rules ≡ length self.old.plan.rules + 1 }
     {
         let node = numbers[self.plan.len() as usize];
-        let copy = self.next_copy(arena, node, numbers, named, root);
+        let copy = self.next_copy(arena, node, numbers, named);
         self.plan.add(copy);
     }
 
     // The node under its new numbers.
-    fn next_copy(&self, arena: &Arena, node: u64, numbers: &[u64], named: &[u64], root: u64) -> Rule
+    fn next_copy(&self, arena: &Arena, node: u64, numbers: &[u64], named: &[u64]) -> Rule
         requires there { node < length arena.now.rules }
         requires more { length self.now.plan.rules < length numbers.now }
         requires next { node ≡ slice_index numbers.now (length self.now.plan.rules) }
-        requires copying { IsCopying arena.now root numbers.now named.now self.now.plan self.now.uploads.items }
+        requires copying { IsCopying arena.now numbers.now named.now self.now.plan self.now.uploads.items }
         ensures { IsNextCopy arena.now self.now.plan numbers.now named.now node result }
     {
         sizes_of_cuts();
@@ -146,25 +181,27 @@ fn copy_of(up: &Accepted, alloc: Global, is_counted: bool) -> Result<Accepted, M
     }
 }
 
-// The nodes that the root reaches, in order.
-fn reached(arena: &Arena, alloc: Global, root: u64) -> Result<Vec<u64>, Memory>
-    requires there { root < length arena.now.rules }
+// The nodes that the roots reach, in order.
+fn reached(arena: &Arena, alloc: Global, roots: &[u64], end: u64) -> Result<Vec<u64>, Memory>
+    requires roots { AllByRecursion (λ i. i < end) roots.now }
+    requires there { end ≤ length arena.now.rules }
     requires few { length arena.now.rules ≤ MAX_NODES }
-    ensures { IfOk result (λ v. IsReach arena.now root v.items) }
+    ensures { IfOk result (λ v. IsReach arena.now roots.now end v.items) }
 {
-    let marks = marked(arena, alloc, root)?;
+    let marks = marked(arena, alloc, roots, end)?;
     numbers_of(alloc, &marks)
 }
 
-// Marks what the root reaches, from the root downwards.
-fn marked(arena: &Arena, alloc: Global, root: u64) -> Result<Vec<bool>, Memory>
-    requires there { root < length arena.now.rules }
+// Marks what the roots reach, from the last node below the end downwards.
+fn marked(arena: &Arena, alloc: Global, roots: &[u64], end: u64) -> Result<Vec<bool>, Memory>
+    requires roots { AllByRecursion (λ i. i < end) roots.now }
+    requires there { end ≤ length arena.now.rules }
     requires few { length arena.now.rules ≤ MAX_NODES }
-    ensures { IfOk result (λ v. IsMarkedFrom arena.now root 0 v.items) }
+    ensures { IfOk result (λ v. IsMarkedFrom arena.now roots.now end 0 v.items) }
 {
-    let mut marks = vec![in alloc; false; root as usize + 1]?;
-    marks[root as usize] = true;
-    let mut node = root + 1;
+    let mut marks = vec![in alloc; false; end as usize]?;
+    mark_each(&mut marks, roots);
+    let mut node = end;
     while node > 0 {
         node -= 1;
         if marks[node as usize] {
@@ -183,20 +220,23 @@ fn mark_children(arena: &Arena, node: u64, marks: &mut Vec<bool>)
         ↔ (IsMarked marks.old.items i ⊎ Contains (node_children arena.now node) i) }
 {
     let children = arena.rule(node).children(arena.uploads());
-    for child in children.as_slice() {
-        marks[*child as usize] = true;
+    mark_each(marks, children.as_slice());
+}
+
+// Marks these places.
+fn mark_each(marks: &mut Vec<bool>, places: &[u64])
+    requires { AllByRecursion (λ i. i < length marks.old.items) places.now }
+    ensures len { length marks.new.items ≡ length marks.old.items }
+    ensures marks { (i : ℕ) → IsMarked marks.new.items i ↔ (IsMarked marks.old.items i ⊎ Contains places.now i) }
+{
+    for place in places {
+        marks[*place as usize] = true;
     }
 }
 
 // The uploads that these nodes name, in order.
-fn uploads_named(
-    arena: &Arena,
-    alloc: Global,
-    numbers: &[u64],
-    root: u64,
-) -> Result<Vec<u64>, Memory>
-    requires reach { IsReach arena.now root numbers.now }
-    requires there { root < length arena.now.rules }
+fn uploads_named(arena: &Arena, alloc: Global, numbers: &[u64]) -> Result<Vec<u64>, Memory>
+    requires { IsClosed arena.now numbers.now }
     ensures { IfOk result (λ v. AreNamedBy arena.now numbers.now v.items) }
 {
     let marks = marked_uploads(arena, alloc, numbers)?;
@@ -229,14 +269,8 @@ fn mark_upload(arena: &Arena, node: u64, marks: &mut Vec<bool>)
 }
 
 // Marks the uploads that an induced node of these names, whose counts are looked up for its cost.
-fn uploads_counted(
-    arena: &Arena,
-    alloc: Global,
-    numbers: &[u64],
-    root: u64,
-) -> Result<Vec<bool>, Memory>
-    requires reach { IsReach arena.now root numbers.now }
-    requires there { root < length arena.now.rules }
+fn uploads_counted(arena: &Arena, alloc: Global, numbers: &[u64]) -> Result<Vec<bool>, Memory>
+    requires { IsClosed arena.now numbers.now }
     ensures { IfOk result (λ v. length v.items ≡ length arena.now.uploads) }
 {
     let mut counted = vec![in alloc; false; arena.uploads().len()]?;

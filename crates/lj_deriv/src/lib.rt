@@ -7,6 +7,7 @@ mod bounded_lists;
 mod children;
 mod copying;
 mod counts;
+mod forests;
 pub mod laws;
 mod limits;
 mod plans;
@@ -16,6 +17,7 @@ mod texts;
 
 pub use arena::Arena;
 pub use bounded_lists::Numbers;
+pub use forests::Forest;
 pub use limits::{MAX_ARENA_UPLOADS, MAX_NODES};
 pub use plans::Plan;
 pub use rules::{Part, Rule};

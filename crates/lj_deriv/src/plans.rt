@@ -1,12 +1,14 @@
-ghost use Rattle.std.specs.Prelude.{◌≡◌, ℕ, ◌*◌, ◌^◌, ◌<◌, ◌≤◌, ◌++◌, length, IfOk, OnErr, OnOk};
+ghost use Rattle.std.specs.Prelude.{◌≡◌, ℕ, ◌*◌, ◌^◌, ◌<◌, ◌≤◌, ◌++◌, length, map, IfOk, OnErr, OnOk};
 ghost use Rattle.std.specs.List.{AllByRecursion};
 ghost use Rattle.lj_base.specs.Blocks.{Covers};
+ghost use Rattle.lj_text.specs.Lines.{text_lines};
+ghost use Rattle.lj_text.specs.Tokens.{words};
 ghost use Rattle.lj_cover.specs.Derivations.{IsDerivation, IsFrom, expand, root_cell, tree_cost};
 ghost use Rattle.lj_cover.specs.Rules.{IsCovering};
 ghost use Rattle.lj_deriv.specs.Nodes.{plan_tree, step_tree, steps_of};
 ghost use Rattle.lj_deriv.specs.Plans.{IsNamed, IsWhole};
 ghost use Rattle.lj_deriv.specs.Positions.{before, source_at, tree_share, tree_source};
-ghost use Rattle.lj_deriv.specs.Texts.{Spelled, plan_text};
+ghost use Rattle.lj_deriv.specs.Texts.{Spelled, plan_text, plan_words};
 ghost use Rattle.lj_deriv.specs.Trees.{children_of, rule_at, upload_at};
 ghost use Rattle.lj_deriv.specs.Validity.{AreValid, IsNode};
 ghost use Rattle.lj_upload.specs.Uploads.{IsAccepted};
@@ -173,5 +175,17 @@ impl Plan {
         ensures { result.now ≡ upload_at self.now.uploads u }
     {
         self.arena.upload(u)
+    }
+    /// Appends a line for each node: its number from 1, its rule, the cell and the cost of its derivation, and what the
+    /// rule names. Children stand before parents, and the root last. The words of each line read back. It takes time
+    /// for each byte.
+    pub fn text(&self, out: &mut Vec<u8>) -> Result<(), Memory>
+        ensures ok { OnOk result (out.new.items ≡ out.old.items ++ plan_text self.now) }
+        ensures err { OnErr result (out.new.items ≡ out.old.items) }
+        ensures spelled { Spelled (plan_tree self.now) (plan_text self.now) }
+        ensures reads_back { map (words (plan_text self.now)) (text_lines (plan_text self.now)) ≡ plan_words self.now }
+    {
+        let _ = self.len();
+        self.arena.text(out)
     }
 }

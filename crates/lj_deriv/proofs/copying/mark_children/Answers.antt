@@ -1,35 +1,25 @@
-use Rattle.std.proofs.Common.{◌≡◌, ◌∙◌, ◌<◌, ◌⊎◌, ◌↔◌, true, get_or, take, arith, refl, subst, sym}
-use Rattle.std.proofs.lemmas.List.{length-set, take_all}
+use Rattle.std.proofs.Common.{◌≡◌, ◌<◌, ◌⊎◌, ◌↔◌, arith, length, rules, subst, sym}
 use Rattle.std.specs.List.{AllByRecursion, Contains}
 use Rattle.lj_deriv.specs.Nodes.{children_of}
 use Rattle.lj_deriv.specs.Copies.{IsMarked, node_children}
-use Rattle.lj_deriv.proofs.Marking.{marks_more}
-use Rattle.lj_base.proofs.Lists.{AllByRecursion-at}
+use Rattle.lj_base.proofs.Lists.{AllByRecursion-weaker}
 use Rattle.lj_deriv.proofs.copying.mark_children.Goals as goal
 
-pub loop-child-preserved : goal.loop-child-preserved
-loop-child-preserved c =
-    let items = c.as_slice-child-items.result.now in
-    let i = c.loop-child.child-index in
+pub mark_each-requires : goal.mark_each-requires
+mark_each-requires c =
+    let a = c.args.arena.now in
     let node = c.args.node in
-    let marks = c.loop-child.marks.items in
-    let h = c.loop-child.invariant in
-    let earlier : AllByRecursion (λ j. j < node) (node_children c.args.arena.now node)
-    = subst (λ r. AllByRecursion (λ j. j < node) (children_of c.args.arena.now.uploads r)) c.rule.ensures.node.rule
+    let count = length c.args.marks.now.items in
+    let earlier : AllByRecursion (λ j. j < node) (node_children a node) =
+    subst (λ r. AllByRecursion (λ j. j < node) (children_of a.uploads r)) c.rule.ensures.node.rule
     c.rule.ensures.node.children in
-    let low = AllByRecursion-at (λ j. j < node) 0 items i c.loop-child-test.true
-    (subst (AllByRecursion (λ j. j < node)) (sym h.children) earlier) in
-    record {
-      len = length-set marks (get_or items i 0) true ∙ h.len;
-      children = h.children;
-      marks = marks_more c.args.marks.now.items marks items i (get_or items i 0) c.loop-child-test.true refl
-          (omega (arith, low, h.len, c.requires.within)) h.marks;
-    }
+    let same : c.as_slice.result.now ≡ node_children a node = search rules in
+    subst (AllByRecursion (λ j. j < count)) (sym same)
+    (AllByRecursion-weaker (λ j. j < node) (λ j. j < count) (node_children a node)
+    (λ j low. omega (arith, low, c.requires.within)) earlier)
 
 pub returns-clause-marks : goal.returns-clause-marks
 returns-clause-marks c i =
-    let items = c.as_slice-child-items.result.now in
-    let all : take c.loop-child.child-index items ≡ node_children c.args.arena.now c.args.node =
-    take_all c.loop-child.child-index items c.loop-child-test.false ∙ c.loop-child.invariant.children in
-    subst (λ is. IsMarked c.loop-child.marks.items i ↔ (IsMarked c.args.marks.now.items i ⊎ Contains is i)) all
-    (c.loop-child.invariant.marks i)
+    let same : c.as_slice.result.now ≡ node_children c.args.arena.now c.args.node = search rules in
+    subst (λ is. IsMarked c.mark_each.new.marks.items i ↔ (IsMarked c.args.marks.now.items i ⊎ Contains is i)) same
+    (c.mark_each.ensures.marks i)

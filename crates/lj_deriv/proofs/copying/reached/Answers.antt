@@ -12,7 +12,7 @@ returns c =
     let same = c.deref.ensures.value in
     IfOk-both c.numbers_of.result _ _ _
     (λ v order has.
-    IsReach-from_marks c.args.arena.now c.args.root marks v.items c.in_ok-marks.ensures
+    IsReach-from_marks c.args.arena.now c.args.roots.now c.args.end marks v.items c.in_ok-marks.ensures
     (subst (λ ms. Ascends 0 (length ms) v.items) same order)
     (subst (λ ms. (i : ℕ) → Contains v.items i ↔ IsMarked ms i) same has))
     c.numbers_of.ensures.ascends c.numbers_of.ensures.has

@@ -1,4 +1,4 @@
-use Rattle.std.proofs.Common.{ℕ, ◌<◌, ◌↔◌, length, suc, arith, subst}
+use Rattle.std.proofs.Common.{ℕ, ◌<◌, ◌↔◌, length, subst}
 use Rattle.std.specs.List.{Contains}
 use Rattle.lj_base.specs.Blocks.{Ascends}
 use Rattle.lj_base.proofs.Ascending.{Ascends-get_or_below}
@@ -11,9 +11,7 @@ use Rattle.lj_deriv.proofs.copying.uploads_named.Goals as goal
 pub marked_uploads-requires : goal.marked_uploads-requires
 marked_uploads-requires c =
     AllByRecursion-from_places (λ i. i < length c.args.arena.now.rules) 0 c.args.numbers.now
-    (λ k inside.
-    let below = Ascends-get_or_below 0 (suc c.args.root) c.args.numbers.now k c.requires.reach.ascends inside in
-    omega (arith, below, c.requires.there))
+    (λ k inside. Ascends-get_or_below 0 (length c.args.arena.now.rules) c.args.numbers.now k c.requires.ascends inside)
 
 pub returns : goal.returns
 returns c =

@@ -1,4 +1,4 @@
-use Rattle.std.proofs.Common.{◌≡◌, length, get_or, subst, suc, sym}
+use Rattle.std.proofs.Common.{◌≡◌, length, get_or, subst, sym}
 use Rattle.std.proofs.lemmas.List.Elements.{Contains-get_or}
 use Rattle.std.specs.List.{AllByRecursion, Contains}
 use Rattle.lj_base.proofs.Lists.{AllByRecursion-both}
@@ -8,7 +8,7 @@ use Rattle.lj_deriv.proofs.Sizes.{HasPlaces-full}
 use Rattle.lj_deriv.proofs.copying.Copying.next_copy.Goals as goal
 
 pub renumbered-requires : goal.renumbered-requires
-renumbered-requires c = (suc c.args.root, c.requires.copying.reach.ascends)
+renumbered-requires c = (length c.args.arena.now.rules, c.requires.copying.closed.ascends)
 
 pub returns : goal.returns
 returns c =
