@@ -3,12 +3,13 @@ ghost use Rattle.std.specs.Prelude.{IsTrue, All, length, []};
 ghost use Rattle.std.specs.Bool.{OnTrue};
 ghost use Rattle.std.specs.List.{AllByRecursion};
 ghost use Rattle.lj_base.specs.Bounds.{at_cell};
-ghost use Rattle.lj_base.specs.Cells.{Triple};
+ghost use Rattle.lj_base.specs.Cells.{IsCell, Triple};
 ghost use Rattle.lj_base.specs.Colex.{choose};
 ghost use Rattle.lj_base.specs.Frames.{InFrame, index_of};
 ghost use Rattle.lj_cover.specs.Derivations.{DerivableIn, root_cell, tree_cost};
 ghost use Rattle.lj_cover.specs.Instances.{IsRowOf, rows_at};
 ghost use Rattle.lj_cover.specs.Rules.{IsCovering};
+ghost use Rattle.lj_deriv.specs.Forests.{IsForestOf};
 ghost use Rattle.lj_deriv.specs.Nodes.{IsDerivedIn, node_tree, plan_tree};
 ghost use Rattle.lj_deriv.specs.Plans.{IsPlanOf};
 ghost use Rattle.lj_induced.specs.Rows.{IsRowAt};
@@ -28,10 +29,10 @@ use crate::rests::Rest;
 use crate::rows::{present_rows, push_rows};
 use crate::starting::begin;
 use crate::store::Store;
-use lj_base::{Cell, Frame, Memory, Row, index_law};
+use lj_base::{Cell, Frame, Memory, Row, cells_law, index_law};
 use lj_bitmap::RankMap;
 use lj_cover::laws::{more_uploads_derive, rows_are_of_uploads};
-use lj_deriv::{Arena, MAX_ARENA_UPLOADS, Plan};
+use lj_deriv::{Arena, Forest, MAX_ARENA_UPLOADS, Plan};
 use lj_relax::laws::{accept_keeps_good, bounds_are_positive, publish_keeps_good, rest_is_least};
 use lj_relax::{Proposal, Ticket, least_instance};
 use lj_upload::Accepted;
@@ -160,6 +161,17 @@ impl Table {
     {
         self.store.arena.nodes_derive();
         self.store.arena.plan(alloc, self.node(c))
+    }
+
+    /// The derivations of all cells, of the nodes that they have now, which stand alone: the roots are the cells'
+    /// nodes, in index order.
+    pub fn forest(&self, alloc: Global) -> Result<Forest, Memory>
+        ensures { IfOk result (IsForestOf self.now.arena self.now.nodes) }
+    {
+        cells_law();
+        let frame = self.store.arena.frame();
+        top_law(frame);
+        self.store.arena.forest(alloc, &self.store.nodes)
     }
 
     /// Whether what is found over a ticket may be published in this table. Cost: a step for each cell of the frame, and
@@ -379,4 +391,11 @@ impl Table {
             true,
         );
     }
+}
+
+// The greatest numbers of a frame are those of a cell.
+fn top_law(frame: Frame)
+    ensures { IsCell frame.top }
+{
+    let _ = frame.top.v;
 }
