@@ -6,3 +6,4 @@ pub mod Taking
 mod Faulty
 mod FieldLists
 pub mod Least
+pub mod OneRefusal

@@ -4,4 +4,5 @@ pub mod Certificates
 pub mod Faults
 pub mod Unfolding
 pub mod Good
+pub mod Refusals
 pub mod Rests

@@ -3,13 +3,16 @@ ghost use Rattle.lj_base.specs.Cells.{IsCell};
 ghost use Rattle.lj_cert.specs.Certificates.{IsCert};
 ghost use Rattle.lj_cert.specs.Faults.{IsCertFault};
 ghost use Rattle.lj_cert.specs.Good.{IsGood, bounds_of};
+ghost use Rattle.lj_cert.specs.Refusals.{IsNo};
 ghost use Rattle.lj_cert.specs.Rests.{AreLeast};
-ghost use Rattle.lj_cert.specs.Values.{CertValue, IsFormed};
+ghost use Rattle.lj_cert.specs.Values.{AreDistinct, CertValue, IsFormed};
 ghost use Rattle.lj_cert.specs.declared.faults.CertFault.{CertFault};
+ghost use Rattle.lj_cert.specs.declared.refusals.No.{No};
 
 use lj_base::{cells_law, index_law};
 use lj_blockfile::one_reading_law;
 use lj_relax::laws::rest_is_least;
+use lj_verify::outcome_law;
 
 /// Bytes spell at most one certificate, or else have at most one fault.
 pub fn cert_law()
@@ -29,4 +32,14 @@ pub fn good_certificates_are_least()
     cells_law();
     index_law();
     rest_is_least();
+}
+
+/// A certificate in which each upload has a name and ordinal of its own is refused for one reason at most, and for none
+/// where it is good.
+pub fn refusals_law()
+    ensures one { (cert : CertValue) (a b : No) → AreDistinct cert.uploads → IsNo cert a → IsNo cert b → a ≡ b }
+    ensures none { (cert : CertValue) (no : No) → AreDistinct cert.uploads → IsGood cert → IsNo cert no → ⊥ }
+{
+    index_law();
+    outcome_law();
 }
