@@ -95,6 +95,7 @@ fn least_starting_at(
 }
 
 /// The tails, from the greatest number of points that a set can have on the first side down to the least.
+#[inline(always)]
 pub fn least_tails(frame: Frame, bounds: &[u64], offsets: &[usize; 27], s: Sides) -> [u64; 10]
     requires numbers { HasPrices frame bounds.now s }
     requires offsets { AreOffsets frame offsets.now }

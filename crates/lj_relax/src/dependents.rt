@@ -60,6 +60,7 @@ impl Iterator for Dependents {
 
     ghost remaining = { item_count (λ left. left) };
 
+    #[inline(always)]
     fn next(&mut self) -> Option<Cell> {
         let found = next_from(self.frame, self.child, self.v, self.k, self.t)?;
         self.v = found.v;
@@ -70,6 +71,7 @@ impl Iterator for Dependents {
 }
 
 // The first of the readers that are left at a place.
+#[inline(always)]
 fn next_from(frame: Frame, child: Cell, v: u8, k: u8, t: u8) -> Option<Cell>
     requires inside { InFrame frame child }
     requires v { v ≤ 99 }
@@ -85,6 +87,7 @@ fn next_from(frame: Frame, child: Cell, v: u8, k: u8, t: u8) -> Option<Cell>
 }
 
 // The first reader of the child from a place on.
+#[inline(always)]
 fn first_from(frame: Frame, child: Cell, v: u8, k: u8, t: u8) -> Option<Cell>
     requires inside { InFrame frame child }
     requires v { v ≤ 99 }
@@ -101,6 +104,7 @@ fn first_from(frame: Frame, child: Cell, v: u8, k: u8, t: u8) -> Option<Cell>
 }
 
 // The first reader with at most the child's points, from a place on.
+#[inline(always)]
 fn close_from(frame: Frame, child: Cell, v: u8, k: u8, t: u8) -> Option<Cell>
     requires inside { InFrame frame child }
     requires v { v ≤ 99 }
@@ -148,6 +152,7 @@ fn key_of(v: u8, k: u8, t: u8) -> u32
 }
 
 // The first reader with more points than the child, from a place on.
+#[inline(always)]
 fn factor_from(frame: Frame, child: Cell, v: u8, k: u8, t: u8) -> Option<Cell>
     requires inside { InFrame frame child }
     requires v { v ≤ 99 }
