@@ -17,6 +17,7 @@ mod texts;
 
 pub use arena::Arena;
 pub use bounded_lists::Numbers;
+pub use children::cut_sizes;
 pub use forests::Forest;
 pub use limits::{MAX_ARENA_UPLOADS, MAX_NODES};
 pub use plans::Plan;

@@ -2,7 +2,7 @@
 use Rattle.std.proofs.Common.{◌≡◌, ℕ, suc, ◌+◌, ◌<◌, ◌≤◌, true, cond, List, [], ◌∷◌, ◌++◌, length, take}
 use Rattle.std.proofs.Common.{drop, get_or, sym, ap, ◌∙◌, subst, arith, length-append, Some}
 use Rattle.std.proofs.lemmas.Bool.{cond_both}
-use Rattle.std.proofs.lemmas.List.{take-append-drop, length-take-le, take_more, get_or_at, get_or_append_left}
+use Rattle.std.proofs.lemmas.List.{take-append-drop, get_or_at, get_or_append_left}
 use Rattle.std.proofs.lemmas.List.Elements.{All-contains_itself, All-weaker}
 use Rattle.std.proofs.lemmas.Option.{get_or_from_slice_get, slice_get-get_or, slice_get_within}
 use Rattle.std.specs.List.{All, Contains, slice_get}
@@ -10,13 +10,7 @@ use Rattle.lj_base.specs.Cells.{Triple}
 use Rattle.lj_base.specs.declared.Row.{Row}
 use Rattle.lj_cover.specs.Instances.{IsRowOf, cut_counts, has_row, rows_at, rows_from}
 use Rattle.lj_cover.specs.Rules.{Upload}
-
-abbrev pub row_at : Upload → ℕ → Triple → Row
-row_at u i c = record { upload = i; counts = cut_counts c.v u.blocks }
-
-abbrev pub MoreRows : Type 0
-MoreRows = (uploads others : List Upload) (c : Triple)
-    → rows_at (uploads ++ others) c ≡ rows_at uploads c ++ rows_from (length uploads) others c
+use Rattle.lj_rows.proofs.RowLists.{MoreRows, next_rows, row_at}
 
 pub length-rows_from : (n : ℕ) (us : List Upload) (c : Triple) → length (rows_from n us c) ≤ length us
 length-rows_from n [] c = omega arith
@@ -24,15 +18,6 @@ length-rows_from n (u ∷ us) c =
     let rest = length-rows_from (suc n) us c in
     cond_both (has_row c u) (record { upload = n; counts = cut_counts c.v u.blocks } ∷ rows_from (suc n) us c)
     (rows_from (suc n) us c) (λ rs. length rs ≤ suc (length us)) (λ _. omega (arith, rest)) (λ _. omega (arith, rest))
-
--- the rows of one upload more
-pub next_rows : MoreRows → (c : Triple) (us : List Upload) (i : ℕ) (u : Upload) → i < length us → u ≡ get_or us i u
-    → rows_at (take (i + 1) us) c ≡ rows_at (take i us) c ++ cond (has_row c u) (row_at u i c ∷ []) []
-next_rows more c us i u inside is =
-    let count : length (take i us) ≡ i = length-take-le i us (omega (arith, inside)) in
-    ap (λ vs. rows_at vs c) (take_more us i u inside ∙ ap (λ v. take i us ++ v ∷ []) (sym is))
-    ∙ more (take i us) (u ∷ []) c
-    ∙ ap (λ n. rows_at (take i us) c ++ rows_from n (u ∷ []) c) count
 
 -- where an upload has a row, it is the one after those of the uploads before it
 pub record IsNextRow (place : ℕ) (all : List Row) (row : Row) : Type 0 where

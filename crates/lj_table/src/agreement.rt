@@ -9,11 +9,11 @@ ghost use Rattle.lj_deriv.specs.Nodes.{Nodes};
 ghost use Rattle.lj_table.specs.Lowering.{AgreesWith};
 ghost use Rattle.lj_table.specs.Tables.{Fits, IsTestAt};
 
-use crate::rows::{row_of, serves};
 use lj_base::{Cell, Frame, Row, index_law};
 use lj_cover::laws::rows_are_of_uploads;
 use lj_deriv::{Arena, MAX_ARENA_UPLOADS};
 use lj_relax::{Ticket, reads};
+use lj_rows::{row_of, serves};
 use lj_upload::Accepted;
 
 /// Whether a ticket's rows are those of now, and its bounds are so at each cell that its cell reads. Where nothing has

@@ -3,9 +3,9 @@ ghost use Rattle.lj_base.specs.Frames.{size_of};
 ghost use Rattle.lj_cover.specs.Instances.{IsRowOf, cut_counts};
 ghost use Rattle.lj_table.specs.Tables.{AreNodes, IsNodeOf, IsTestAt};
 
-use crate::rows::serves;
 use lj_base::{Cell, Frame, Row, index_law};
 use lj_deriv::Arena;
+use lj_rows::serves;
 use lj_upload::Accepted;
 
 /// Whether each cell's node is there, is of that cell and costs its number. Own nodes and bounds are known to be such,

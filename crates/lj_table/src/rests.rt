@@ -7,12 +7,12 @@ ghost use Rattle.lj_induced.specs.Rows.{IsRowAt};
 ghost use Rattle.lj_table.specs.Settling.{HasRested, NoneCheaper};
 ghost use Rattle.lj_table.specs.Tables.{IsTable, contents_of};
 
-use crate::rows::present_rows;
 use crate::store::Store;
 use lj_base::{Cell, Frame, Memory, Row};
 use lj_cover::laws::{price_by_row, rows_are_of_uploads};
 use lj_induced::best_induced;
 use lj_relax::laws::bounds_are_positive;
+use lj_rows::present_rows;
 use lj_upload::Accepted;
 
 /// When a table was at rest: how many uploads and how many nodes it had.

@@ -2,7 +2,8 @@ use Rattle.std.proofs.Common.{◌≡◌, ◌<◌, ◌++◌, [], ◌∷◌, cond,
 use Rattle.std.proofs.lemmas.List.{append-nil, get_or_default, length-take-le, take_more}
 use Rattle.lj_cover.specs.Instances.{rows_at}
 use Rattle.lj_table.proofs.ByCell.{apart}
-use Rattle.lj_table.proofs.RowLists.{next_row, next_rows, row_at}
+use Rattle.lj_rows.proofs.RowLists.{next_rows, row_at}
+use Rattle.lj_table.proofs.RowLists.{next_row}
 use Rattle.lj_table.proofs.agreement.same_rows.Goals as goal
 use Rattle.lj_table.proofs.agreement.same_rows.Goals.{then-serves+else-not-is_row_at, else-serves}
 

@@ -5,7 +5,8 @@ use Rattle.lj_base.specs.Cells.{Triple}
 use Rattle.lj_base.specs.declared.Row.{Row}
 use Rattle.lj_cover.specs.Instances.{has_row, rows_at}
 use Rattle.lj_relax.specs.Tickets.{TicketLists}
-use Rattle.lj_table.proofs.RowLists.{length-rows_from, next_rows, row_at}
+use Rattle.lj_rows.proofs.RowLists.{next_rows, row_at}
+use Rattle.lj_table.proofs.RowLists.{length-rows_from}
 use Rattle.lj_table.proofs.rows.push_rows.Goals as goal
 use Rattle.lj_table.proofs.rows.push_rows.Goals.{then-serves, else-serves}
 

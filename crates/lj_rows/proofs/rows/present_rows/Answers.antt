@@ -3,9 +3,9 @@ use Rattle.std.proofs.lemmas.List.{append-nil}
 use Rattle.std.proofs.lemmas.List.Elements.{All-push}
 use Rattle.lj_cover.specs.Instances.{rows_at}
 use Rattle.lj_induced.specs.Rows.{IsRowAt}
-use Rattle.lj_table.proofs.RowLists.{next_rows, row_at}
-use Rattle.lj_table.proofs.rows.present_rows.Goals as goal
-use Rattle.lj_table.proofs.rows.present_rows.Goals.{then-serves+in_ok-push, else-serves}
+use Rattle.lj_rows.proofs.RowLists.{next_rows, row_at}
+use Rattle.lj_rows.proofs.rows.present_rows.Goals as goal
+use Rattle.lj_rows.proofs.rows.present_rows.Goals.{then-serves+in_ok-push, else-serves}
 
 pub loop-i-preserved : goal.loop-i-preserved
 loop-i-preserved c =

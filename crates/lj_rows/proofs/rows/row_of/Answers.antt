@@ -2,7 +2,7 @@ use Rattle.std.proofs.Common.{◌∙◌, ℕ, List, ap}
 use Rattle.lj_base.specs.Cells.{Triple}
 use Rattle.lj_base.specs.declared.Row.{Row}
 use Rattle.lj_cover.specs.Instances.{cut_counts}
-use Rattle.lj_table.proofs.rows.row_of.Goals as goal
+use Rattle.lj_rows.proofs.rows.row_of.Goals as goal
 
 row_with : ℕ → List ℕ → Row
 row_with i counts = record { upload = i; counts = counts }

@@ -1,7 +1,7 @@
 use Rattle.std.proofs.Common.{◌≡◌, All, take}
 use Rattle.lj_cover.specs.Instances.{rows_at}
 use Rattle.lj_induced.specs.Rows.{IsRowAt}
-use Rattle.lj_table.proofs.rows.present_rows.Given as goal
+use Rattle.lj_rows.proofs.rows.present_rows.Given as goal
 
 abbrev pub invariant-loop-i : goal.invariant-loop-i
 invariant-loop-i l = record {
