@@ -118,6 +118,9 @@ fn close_from(frame: Frame, child: Cell, v: u8, k: u8, t: u8) -> Option<Cell>
     let from = key_of(v, k, t);
     let c = child;
     let top = frame.top;
+    if c.v < v {
+        return None;
+    }
     if 1 < c.v && c.k < c.v && from <= key_of(c.v - 1, c.k, c.t) {
         return Some(Cell {
             v: c.v - 1,

@@ -1,5 +1,6 @@
 pub mod Accepting
 pub mod Claiming
+pub mod Differences
 pub mod Lowering
 pub mod Opening
 pub mod RulesOver

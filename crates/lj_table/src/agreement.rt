@@ -9,6 +9,7 @@ ghost use Rattle.lj_deriv.specs.Nodes.{Nodes};
 ghost use Rattle.lj_table.specs.Lowering.{AgreesWith};
 ghost use Rattle.lj_table.specs.Tables.{Fits, IsTestAt};
 
+use crate::differences::next_difference;
 use lj_base::{Cell, Frame, Row, index_law};
 use lj_cover::laws::rows_are_of_uploads;
 use lj_deriv::{Arena, MAX_ARENA_UPLOADS};
@@ -37,22 +38,13 @@ fn same_bounds(frame: Frame, c: Cell, old: &[u64], new: &[u64]) -> bool
     ensures { IsTrue result ↔ ((d : Triple) → InFrame frame d → Reads frame c d
         → at_cell frame old.now d ≡ at_cell frame new.now d) }
 {
-    old == new || same_where_read(frame, c, old, new)
-}
-
-fn same_where_read(frame: Frame, c: Cell, old: &[u64], new: &[u64]) -> bool
-    requires inside { InFrame frame c }
-    requires old { length old.now ≡ size_of frame }
-    requires new { length new.now ≡ size_of frame }
-    ensures { IsTrue result ↔ ((d : Triple) → InFrame frame d → Reads frame c d
-        → at_cell frame old.now d ≡ at_cell frame new.now d) }
-{
     index_law();
-    for j in 0..frame.size() {
-        let differ = old[j as usize] != new[j as usize];
-        if differ && reads_at(frame, c, j) {
+    let mut from = 0;
+    while let Some(j) = next_difference(old, new, from) {
+        if reads_at(frame, c, j as u64) {
             return false;
         }
+        from = j + 1;
     }
     true
 }

@@ -1,15 +1,19 @@
-ghost use Rattle.std.specs.Prelude.{◌≡◌, ◌↔◌, ◌<◌, ◌≤◌, All, IsTrue, length};
-ghost use Rattle.lj_base.specs.Frames.{size_of};
+ghost use Rattle.std.specs.Prelude.{◌≡◌, ◌≢◌, ◌↔◌, ◌<◌, ◌≤◌, All, IsTrue, false, length};
+ghost use Rattle.lj_base.specs.Bounds.{at_cell};
+ghost use Rattle.lj_base.specs.Cells.{Triple};
+ghost use Rattle.lj_base.specs.Frames.{InFrame, size_of};
 ghost use Rattle.lj_cover.specs.Instances.{IsRowOf, cut_counts};
 ghost use Rattle.lj_table.specs.Tables.{AreNodes, IsNodeOf, IsTestAt};
 
+use crate::differences::next_difference;
 use lj_base::{Cell, Frame, Row, index_law};
 use lj_deriv::Arena;
 use lj_rows::serves;
 use lj_upload::Accepted;
 
 /// Whether each cell's node is there, is of that cell and costs its number. Own nodes and bounds are known to be such,
-/// so that only those that differ from them are looked up.
+/// so that only those that differ from them are looked up. Cost: a comparison of the lists, and a few steps for each
+/// cell at which they differ.
 pub fn are_nodes(
     frame: Frame,
     arena: &Arena,
@@ -25,21 +29,37 @@ pub fn are_nodes(
     requires bounds { length bounds.now ≡ size_of frame }
     ensures { IsTrue result ↔ AreNodes frame arena.now nodes.now bounds.now }
 {
-    index_law();
-    for j in 0..frame.size() {
-        let (node, bound) = (nodes[j as usize], bounds[j as usize]);
-        let known = are_same(node, own_nodes[j as usize], bound, own_bounds[j as usize]);
-        if !known && !is_node_at(frame, arena, j, node, bound) {
-            return false;
-        }
-    }
-    true
+    are_nodes_where_differ(frame, arena, own_nodes, nodes, nodes, bounds)
+        && are_nodes_where_differ(frame, arena, own_bounds, bounds, nodes, bounds)
 }
 
-fn are_same(node: u64, own_node: u64, bound: u64, own_bound: u64) -> bool
-    ensures { IsTrue result ↔ ((node ≡ own_node) × (bound ≡ own_bound)) }
+// Whether each cell's node is there, is of that cell and costs its number, at the places at which two lists differ.
+fn are_nodes_where_differ(
+    frame: Frame,
+    arena: &Arena,
+    old: &[u64],
+    new: &[u64],
+    nodes: &[u64],
+    bounds: &[u64],
+) -> bool
+    requires old { length old.now ≡ size_of frame }
+    requires new { length new.now ≡ size_of frame }
+    requires nodes { length nodes.now ≡ size_of frame }
+    requires bounds { length bounds.now ≡ size_of frame }
+    ensures each { IsTrue result → (c : Triple) → InFrame frame c
+        → at_cell frame old.now c ≢ at_cell frame new.now c
+        → IsNodeOf arena.now (at_cell frame nodes.now c) c (at_cell frame bounds.now c) }
+    ensures other { result ≡ false → AreNodes frame arena.now nodes.now bounds.now → ⊥ }
 {
-    node == own_node && bound == own_bound
+    index_law();
+    let mut from = 0;
+    while let Some(j) = next_difference(old, new, from) {
+        if !is_node_at(frame, arena, j as u64, nodes[j], bounds[j]) {
+            return false;
+        }
+        from = j + 1;
+    }
+    true
 }
 
 // Whether the node is one of the cell at the place.

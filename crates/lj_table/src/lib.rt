@@ -3,6 +3,7 @@
 #![tactic(auto)]
 
 mod agreement;
+mod differences;
 mod fitting;
 mod lowering;
 mod marks;
