@@ -8,4 +8,4 @@ mod products;
 mod sides;
 
 pub use choices::{PartChoice, ProductChoice};
-pub use products::{best_product, best_product_price};
+pub use products::{best_product, best_product_below, best_product_price};

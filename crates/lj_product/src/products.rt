@@ -1,8 +1,8 @@
-ghost use Rattle.std.specs.Prelude.{◌≡◌, ℕ, ◌<◌, ◌≤◌, ◌↔◌, List, IfSome, None};
+ghost use Rattle.std.specs.Prelude.{◌≡◌, ℕ, ◌<◌, ◌≤◌, ◌↔◌, List, IfSome, None, []};
 ghost use Rattle.lj_base.specs.Cells.{IsCell};
 ghost use Rattle.lj_base.specs.Frames.{InFrame};
 ghost use Rattle.lj_base.specs.Bounds.{AreBounds, at_cell};
-ghost use Rattle.lj_cover.specs.Instances.{price};
+ghost use Rattle.lj_cover.specs.Instances.{IsInstance, price};
 ghost use Rattle.lj_cover.specs.Rules.{Part, Product, Splits, triple};
 ghost use Rattle.lj_product.specs.Products.{IsLeastProduct, IsLeastProductPrice, IsLeastSplit, IsProductChoice};
 ghost use Rattle.lj_product.specs.Sides.{AreOffsets, AreSides, cell_of};
@@ -37,6 +37,28 @@ pub fn best_product_price(frame: Frame, bounds: &[u64], cell: Cell) -> Option<u6
     let offsets = frame.row_offsets();
     let (_, price) = best_split(frame, bounds, offsets, cell)?;
     Some(price)
+}
+
+/// `best_product`, where its price is below the limit; else its parts need not be found.
+pub fn best_product_below(
+    frame: Frame,
+    bounds: &[u64],
+    cell: Cell,
+    limit: u64,
+) -> Option<ProductChoice>
+    requires inside { InFrame frame cell }
+    requires bounds { AreBounds frame bounds.now }
+    ensures least { IfSome result (IsLeastProduct frame (at_cell frame bounds.now) cell) }
+    ensures none { result ≡ None → (v1 : ℕ) (parts : List Part) → IsInstance frame [] cell (Product cell v1 parts)
+        → limit ≤ price (at_cell frame bounds.now) (Product cell v1 parts) }
+{
+    let offsets = frame.row_offsets();
+    let (sides, price) = best_split(frame, bounds, offsets, cell)?;
+    if price < limit {
+        Some(choice_with(frame, bounds, offsets, sides))
+    } else {
+        None
+    }
 }
 
 // The sides of a product of least price at the cell, and that price.

@@ -1,5 +1,5 @@
 -- What was found of each kind, put together.
-use Rattle.std.proofs.Common.{◌≡◌, ℕ, ◌⊎◌, inl, inr, ⊎_elim, List, [], Option, get_or, sym, subst, arith}
+use Rattle.std.proofs.Common.{◌≡◌, ◌≤◌, ℕ, ◌⊎◌, inl, inr, ⊎_elim, List, [], Option, get_or, sym, subst, arith}
 use Rattle.std.proofs.lemmas.List.Elements.{All-contains, Contains-get_or}
 use Rattle.std.specs.List.{All, Contains}
 use Rattle.std.specs.Option.{IfSome}
@@ -110,3 +110,22 @@ pub one_of : (frame : Top) (a : Snapshot) (first second one : Found) → IsFound
     → (one ≡ first) ⊎ (one ≡ second) → IsFound frame a one
 one_of frame a first second one h k e =
     ⊎_elim (λ q. subst (IsFound frame a) (sym q) h) (λ q. subst (IsFound frame a) (sym q) k) e
+
+-- where each price is at most the limit or is met by the best, which is not below the limit, none is below the limit
+pub none_below : (frame : Top) (a : Snapshot) (best : Option ℕ) (limit : ℕ)
+    → ((n : ℕ) → IsAtMost best n → limit ≤ n)
+    → ((r : Rule) → IsElementary r → IsInstance frame [] a.cell r → IsAtMost best (price a.bounds r))
+    → ((v1 : ℕ) (parts : List Part) → IsInstance frame [] a.cell (Product a.cell v1 parts)
+    → IsAtMost best (price a.bounds (Product a.cell v1 parts)) ⊎ (limit ≤ price a.bounds (Product a.cell v1 parts)))
+    → All (λ (row : Row). IsAtMost best (row_price a.bounds a.cell row.counts)) a.rows
+    → (n : ℕ) → IsPrice frame a n → limit ≤ n
+none_below frame a best limit high elementary product rows n one =
+    ⊎_elim
+    (λ i. subst (λ m. limit ≤ m) i.2
+    (by_kind frame a.cell (λ r. limit ≤ price a.bounds r) (λ r is i. high (price a.bounds r) (elementary r is i))
+    (λ v1 parts i. ⊎_elim (high (price a.bounds (Product a.cell v1 parts))) (λ low. low) (product v1 parts i)) i.0
+    i.1))
+    (λ i. subst (λ m. limit ≤ m) i.2
+    (high (row_price a.bounds a.cell i.0.counts)
+    (All-contains (λ (row : Row). IsAtMost best (row_price a.bounds a.cell row.counts)) a.rows i.0 rows i.1)))
+    one

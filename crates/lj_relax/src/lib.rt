@@ -12,7 +12,7 @@ mod tickets;
 
 pub use dependents::Dependents;
 pub use found::Found;
-pub use prices::{least_instance, least_price};
+pub use prices::{instance_below, least_instance, least_price};
 pub use proposals::{Proposal, evaluate};
 pub use reading::reads;
 pub use tickets::Ticket;

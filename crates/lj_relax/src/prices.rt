@@ -1,4 +1,4 @@
-ghost use Rattle.std.specs.Prelude.{◌≡◌, ◌⊎◌, ℕ, All, IfSome, List, []};
+ghost use Rattle.std.specs.Prelude.{◌≡◌, ◌≤◌, ◌⊎◌, ℕ, All, IfSome, IsTrue, List, None, [], false};
 ghost use Rattle.lj_base.specs.Bounds.{AreBounds, at_cell};
 ghost use Rattle.lj_base.specs.Frames.{InFrame};
 ghost use Rattle.lj_base.specs.declared.Row.{Row};
@@ -13,7 +13,7 @@ ghost use Rattle.lj_rules.specs.Elementary.{IsElementary};
 use crate::found::Found;
 use lj_base::{Cell, Frame, Row};
 use lj_induced::best_induced;
-use lj_product::{best_product, best_product_price};
+use lj_product::{best_product, best_product_below, best_product_price};
 use lj_rules::best_elementary;
 
 /// The least price of an elementary rule, a product or a row at the cell: that of `least_instance`, without the parts
@@ -65,6 +65,57 @@ pub fn least_instance(frame: Frame, bounds: &[u64], rows: &[Row], cell: Cell) ->
     let product = least_product(frame, bounds, cell);
     let induced = least_induced(frame, bounds, rows, cell);
     cheaper(cheaper(elementary, product), induced)
+}
+
+/// `least_instance`, where its price is below the limit; else the parts of a product need not be found.
+pub fn instance_below(
+    frame: Frame,
+    bounds: &[u64],
+    rows: &[Row],
+    cell: Cell,
+    limit: u64,
+) -> Option<Found>
+    requires inside { InFrame frame cell }
+    requires bounds { AreBounds frame bounds.now }
+    requires rows { All (IsRowAt frame cell) rows.now }
+    ensures least { IfSome result (IsLeastFound frame (snapshot frame cell bounds.now rows.now)) }
+    ensures none { result ≡ None → (n : ℕ) → IsPrice frame (snapshot frame cell bounds.now rows.now) n → limit ≤ n }
+{
+    let elementary = least_elementary(frame, bounds, cell);
+    let product = product_below(frame, bounds, cell, limit);
+    let induced = least_induced(frame, bounds, rows, cell);
+    let found = cheaper(cheaper(elementary, product), induced);
+    if is_below(&found, limit) {
+        Some(found)
+    } else {
+        None
+    }
+}
+
+// Whether what was found costs less than the limit.
+fn is_below(found: &Found, limit: u64) -> bool
+    ensures yes { IsTrue result → (n : ℕ) → limit ≤ n → IsAtMost (found_cost found.now) n }
+    ensures no { result ≡ false → (n : ℕ) → IsAtMost (found_cost found.now) n → limit ≤ n }
+{
+    match found.cost() {
+        Some(cost) => cost < limit,
+        None => false,
+    }
+}
+
+// A product of least price, where that is below the limit.
+fn product_below(frame: Frame, bounds: &[u64], cell: Cell, limit: u64) -> Found
+    requires inside { InFrame frame cell }
+    requires bounds { AreBounds frame bounds.now }
+    ensures instance { (rows : List Row) → IsFound frame (snapshot frame cell bounds.now rows) result }
+    ensures least { (v1 : ℕ) (parts : List Part) → IsInstance frame [] cell (Product cell v1 parts)
+        → IsAtMost (found_cost result) (price (at_cell frame bounds.now) (Product cell v1 parts))
+        ⊎ (limit ≤ price (at_cell frame bounds.now) (Product cell v1 parts)) }
+{
+    match best_product_below(frame, bounds, cell, limit) {
+        Some(choice) => Found::Product { choice },
+        None => Found::Nothing,
+    }
 }
 
 // An elementary rule of least price.

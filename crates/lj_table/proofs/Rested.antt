@@ -1,7 +1,7 @@
 -- What is known of a table since it was at rest.
 use Rattle.std.proofs.Common.{◌≡◌, ◌≢◌, ℕ, ◌≤◌, Bool, true, false, not, ◌&&◌, List, [], ◌++◌}
 use Rattle.std.proofs.Common.{length, take, drop, get_or, Option, Some, None, refl, sym, ap, ap₂, ◌∙◌, subst}
-use Rattle.std.proofs.Common.{arith, inr, le_trans, ⊎_elim}
+use Rattle.std.proofs.Common.{arith, inl, inr, le_trans, ⊎_elim}
 use Rattle.std.proofs.Math.Seq.{take-length}
 use Rattle.std.proofs.Math.ListN.{set}
 use Rattle.std.proofs.lemmas.Bool.{cases_eq}
@@ -20,12 +20,15 @@ use Rattle.lj_cover.specs.Instances.{IsInstance, cut_counts, price, row_price, r
 use Rattle.lj_cover.specs.Rules.{Upload, One, Runs, All, Leaf, Derived, Derived2, Drop, Add, Grow, Lower}
 use Rattle.lj_cover.specs.Rules.{Product, Induced, IsCovering, triple}
 use Rattle.lj_deriv.specs.Nodes.{Nodes}
+use Rattle.lj_relax.specs.Steps.{IsPrice}
+use Rattle.lj_relax.specs.Tickets.{snapshot}
 use Rattle.lj_table.specs.Lowering.{IsGivenBack}
 use Rattle.lj_table.specs.Settling.{HasRested, IsLater, IsTurn, NoneCheaper}
 use Rattle.lj_table.specs.Tables.{Contents, HasGrown, IsTable, is_taken, mark_at, state_of}
 use Rattle.lj_table.specs.declared.rests.Rest.{Rest}
 use Rattle.lj_table.proofs.ByCell.{cell_cases}
 use Rattle.lj_table.proofs.Publications.{RowsOfUploads, taken_none}
+use Rattle.lj_table.proofs.RowLists.{all_of}
 
 carry : (f f2 : Top) (bounds bounds2 : List ℕ) (us us2 : List Upload) (c : Triple) → f2 ≡ f → bounds2 ≡ bounds
     → us2 ≡ us → NoneCheaper f bounds us c → NoneCheaper f2 bounds2 us2 c
@@ -79,100 +82,125 @@ rests t r table uploads nodes rest = record {
       (λ q i. table.good.closed c q at (rest c at) i);
 }
 
--- the rows of the later uploads show what is cheapest at a cell
-module _ (rows_are : RowsOfUploads)
-    (by_row : (bounds : Triple → ℕ) (u : Upload) (w k : ℕ) → u.cell.k ≤ 25 → AreBlocks u.cell.v u.cell.k u.blocks
-    → price bounds (Induced u w k) ≡ row_price bounds (triple w k u.cell.t) (cut_counts w u.blocks))
-    (t : Contents) (table : IsTable t) (r : Rest) (h : HasRested t.arena t.bounds r)
-    (e : length t.arena.rules ≡ r.nodes) (c : Triple) (at : InFrame t.arena.frame c)
-    (later : AllOf (λ (row : Row). at_cell t.arena.frame t.bounds c
-    ≤ row_price (at_cell t.arena.frame t.bounds) c row.counts) (rows_at (drop r.uploads t.arena.uploads) c)) where
-  of_later : (u : Upload) (w k : ℕ) → IsInstance t.arena.frame t.arena.uploads c (Induced u w k)
-      → Contains (drop r.uploads t.arena.uploads) u
-      → at_cell t.arena.frame t.bounds c ≤ price (at_cell t.arena.frame t.bounds) (Induced u w k)
-  of_later u w k i has =
-      let us = drop r.uploads t.arena.uploads in
-      let b = at_cell t.arena.frame t.bounds in
-      let covers : IsCovering u =
-      (All-contains (λ v. IsCovering v × InFrame t.arena.frame v.cell) t.arena.uploads u table.good.uploads
-      i.upload_from).0 in
-      let place = has.0 in
-      let v : w ≡ c.v = ap (λ (d : Triple). d.v) i.cell_is in
-      let row : Row = record { upload = place; counts = cut_counts c.v u.blocks } in
-      let there : Contains (rows_at us c) row = (rows_are us c row).1 (record {
-        held = u;
-        at_place = slice_get-get_or us place u has.1 ∙ ap Some has.2;
-        t = ap (λ (d : Triple). d.t) i.cell_is;
-        v = subst (λ z. z ≤ u.cell.v) v i.condition.2;
-        counts_are = refl;
-      }) in
-      let low : at_cell t.arena.frame t.bounds c ≤ row_price b c row.counts =
-      All-contains (λ (x : Row). at_cell t.arena.frame t.bounds c ≤ row_price b c x.counts) (rows_at us c) row later
-      there in
-      subst (λ n. at_cell t.arena.frame t.bounds c ≤ n)
-      (sym (by_row b u w k covers.in_limits.4 covers.covers.blocks
-      ∙ ap₂ (λ d z. row_price b d (cut_counts z u.blocks)) i.cell_is v)) low
+-- where no row of these uploads is cheaper, no induced rule of one of them is
+abbrev pub PricedByRow : Type 0
+PricedByRow = (bounds : Triple → ℕ) (u : Upload) (w k : ℕ) → u.cell.k ≤ 25 → AreBlocks u.cell.v u.cell.k u.blocks
+    → price bounds (Induced u w k) ≡ row_price bounds (triple w k u.cell.t) (cut_counts w u.blocks)
 
-  pub none_cheaper : NoneCheaper t.arena.frame t.bounds t.arena.uploads c
-  none_cheaper (Induced u w k) i =
-      ⊎_elim
-      (λ first. h.none e c at (Induced u w k)
-      (record {
-        step = tt;
-        cell_is = i.cell_is;
-        condition = i.condition;
-        children_inside = i.children_inside;
-        upload_from = first;
-      }))
-      (λ has. of_later u w k i has)
-      (Contains-append_cases (take r.uploads t.arena.uploads) (drop r.uploads t.arena.uploads) u
-      (subst (λ us. Contains us u) (sym (take-append-drop r.uploads t.arena.uploads)) i.upload_from))
-  none_cheaper (Drop d) i = h.none e c at (Drop d)
-      (record {
-        step = tt;
-        cell_is = i.cell_is;
-        condition = i.condition;
-        children_inside = i.children_inside;
-        upload_from = tt;
-      })
-  none_cheaper (Add d) i = h.none e c at (Add d)
-      (record {
-        step = tt;
-        cell_is = i.cell_is;
-        condition = i.condition;
-        children_inside = i.children_inside;
-        upload_from = tt;
-      })
-  none_cheaper (Grow d) i = h.none e c at (Grow d)
-      (record {
-        step = tt;
-        cell_is = i.cell_is;
-        condition = i.condition;
-        children_inside = i.children_inside;
-        upload_from = tt;
-      })
-  none_cheaper (Lower d) i = h.none e c at (Lower d)
-      (record {
-        step = tt;
-        cell_is = i.cell_is;
-        condition = i.condition;
-        children_inside = i.children_inside;
-        upload_from = tt;
-      })
-  none_cheaper (Product d v1 parts) i = h.none e c at (Product d v1 parts)
-      (record {
-        step = tt;
-        cell_is = i.cell_is;
-        condition = i.condition;
-        children_inside = i.children_inside;
-        upload_from = tt;
-      })
-  none_cheaper (One d) i = absurd i.step
-  none_cheaper (Runs d) i = absurd i.step
-  none_cheaper (All d) i = absurd i.step
-  none_cheaper (Leaf u) i = absurd i.step
-  none_cheaper (Derived u x) i = absurd i.step
-  none_cheaper (Derived2 u x y) i = absurd i.step
+pub of_rows : RowsOfUploads → PricedByRow → (t : Contents) → IsTable t → (c : Triple) (us : List Upload)
+    → AllOf (λ (row : Row). at_cell t.arena.frame t.bounds c
+    ≤ row_price (at_cell t.arena.frame t.bounds) c row.counts) (rows_at us c)
+    → (u : Upload) (w k : ℕ) → IsInstance t.arena.frame t.arena.uploads c (Induced u w k) → Contains us u
+    → at_cell t.arena.frame t.bounds c ≤ price (at_cell t.arena.frame t.bounds) (Induced u w k)
+of_rows rows_are by_row t table c us later u w k i has =
+    let b = at_cell t.arena.frame t.bounds in
+    let covers : IsCovering u =
+    (All-contains (λ v. IsCovering v × InFrame t.arena.frame v.cell) t.arena.uploads u table.good.uploads
+    i.upload_from).0 in
+    let place = has.0 in
+    let v : w ≡ c.v = ap (λ (d : Triple). d.v) i.cell_is in
+    let row : Row = record { upload = place; counts = cut_counts c.v u.blocks } in
+    let there : Contains (rows_at us c) row = (rows_are us c row).1 (record {
+      held = u;
+      at_place = slice_get-get_or us place u has.1 ∙ ap Some has.2;
+      t = ap (λ (d : Triple). d.t) i.cell_is;
+      v = subst (λ z. z ≤ u.cell.v) v i.condition.2;
+      counts_are = refl;
+    }) in
+    let low : at_cell t.arena.frame t.bounds c ≤ row_price b c row.counts =
+    All-contains (λ (x : Row). at_cell t.arena.frame t.bounds c ≤ row_price b c x.counts) (rows_at us c) row later
+    there in
+    subst (λ n. at_cell t.arena.frame t.bounds c ≤ n)
+    (sym (by_row b u w k covers.in_limits.4 covers.covers.blocks
+    ∙ ap₂ (λ d z. row_price b d (cut_counts z u.blocks)) i.cell_is v)) low
+
+-- no instance is cheaper, where none from other uploads and no induced rule is
+by_uploads : (frame : Top) (bounds : List ℕ) (uploads others : List Upload) (c : Triple)
+    → NoneCheaper frame bounds others c
+    → ((u : Upload) (w k : ℕ) → IsInstance frame uploads c (Induced u w k)
+    → at_cell frame bounds c ≤ price (at_cell frame bounds) (Induced u w k))
+    → NoneCheaper frame bounds uploads c
+by_uploads frame bounds uploads others c plain induced (Induced u w k) i = induced u w k i
+by_uploads frame bounds uploads others c plain induced (Drop d) i = plain (Drop d)
+    (record {
+      step = tt;
+      cell_is = i.cell_is;
+      condition = i.condition;
+      children_inside = i.children_inside;
+      upload_from = tt;
+    })
+by_uploads frame bounds uploads others c plain induced (Add d) i = plain (Add d)
+    (record {
+      step = tt;
+      cell_is = i.cell_is;
+      condition = i.condition;
+      children_inside = i.children_inside;
+      upload_from = tt;
+    })
+by_uploads frame bounds uploads others c plain induced (Grow d) i = plain (Grow d)
+    (record {
+      step = tt;
+      cell_is = i.cell_is;
+      condition = i.condition;
+      children_inside = i.children_inside;
+      upload_from = tt;
+    })
+by_uploads frame bounds uploads others c plain induced (Lower d) i = plain (Lower d)
+    (record {
+      step = tt;
+      cell_is = i.cell_is;
+      condition = i.condition;
+      children_inside = i.children_inside;
+      upload_from = tt;
+    })
+by_uploads frame bounds uploads others c plain induced (Product d v1 parts) i = plain (Product d v1 parts)
+    (record {
+      step = tt;
+      cell_is = i.cell_is;
+      condition = i.condition;
+      children_inside = i.children_inside;
+      upload_from = tt;
+    })
+by_uploads frame bounds uploads others c plain induced (One d) i = absurd i.step
+by_uploads frame bounds uploads others c plain induced (Runs d) i = absurd i.step
+by_uploads frame bounds uploads others c plain induced (All d) i = absurd i.step
+by_uploads frame bounds uploads others c plain induced (Leaf u) i = absurd i.step
+by_uploads frame bounds uploads others c plain induced (Derived u x) i = absurd i.step
+by_uploads frame bounds uploads others c plain induced (Derived2 u x y) i = absurd i.step
+
+-- the rows of the later uploads show what is cheapest at a cell
+pub none_cheaper : RowsOfUploads → PricedByRow → (t : Contents) → IsTable t → (r : Rest) → HasRested t.arena t.bounds r
+    → length t.arena.rules ≡ r.nodes → (c : Triple) → InFrame t.arena.frame c
+    → AllOf (λ (row : Row). at_cell t.arena.frame t.bounds c
+    ≤ row_price (at_cell t.arena.frame t.bounds) c row.counts) (rows_at (drop r.uploads t.arena.uploads) c)
+    → NoneCheaper t.arena.frame t.bounds t.arena.uploads c
+none_cheaper rows_are by_row t table r h e c at later =
+    by_uploads t.arena.frame t.bounds t.arena.uploads (take r.uploads t.arena.uploads) c (h.none e c at)
+    (λ u w k i. ⊎_elim
+    (λ first. h.none e c at (Induced u w k)
+    (record {
+      step = tt;
+      cell_is = i.cell_is;
+      condition = i.condition;
+      children_inside = i.children_inside;
+      upload_from = first;
+    }))
+    (λ has. of_rows rows_are by_row t table c (drop r.uploads t.arena.uploads) later u w k i has)
+    (Contains-append_cases (take r.uploads t.arena.uploads) (drop r.uploads t.arena.uploads) u
+    (subst (λ us. Contains us u) (sym (take-append-drop r.uploads t.arena.uploads)) i.upload_from)))
+
+-- no price over the bounds and rows of now is below the bound, so no instance is cheaper
+pub none_priced : RowsOfUploads → PricedByRow → (t : Contents) → IsTable t → (c : Triple) (rows : List Row)
+    → rows ≡ rows_at t.arena.uploads c
+    → ((n : ℕ) → IsPrice t.arena.frame (snapshot t.arena.frame c t.bounds rows) n → at_cell t.arena.frame t.bounds c ≤ n)
+    → NoneCheaper t.arena.frame t.bounds t.arena.uploads c
+none_priced rows_are by_row t table c rows e low =
+    let b = at_cell t.arena.frame t.bounds in
+    by_uploads t.arena.frame t.bounds t.arena.uploads [] c (λ r i. low (price b r) (inl (r, i, refl)))
+    (λ u w k i. of_rows rows_are by_row t table c t.arena.uploads
+    (all_of (λ (row : Row). b c ≤ row_price b c row.counts) (rows_at t.arena.uploads c)
+    (λ row h. low (row_price b c row.counts) (inr (row, subst (λ rs. Contains rs row) (sym e) h, refl)))) u w k i
+    i.upload_from)
 
 -- a table after an open cell at which nothing is cheaper was closed
 module _ (t : Contents) (c : Triple) (i : ℕ) (closed2 busy2 : List Bool) (table : IsTable t)

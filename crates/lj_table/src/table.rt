@@ -13,9 +13,9 @@ ghost use Rattle.lj_deriv.specs.Forests.{IsForestOf};
 ghost use Rattle.lj_deriv.specs.Nodes.{IsDerivedIn, node_tree, plan_tree};
 ghost use Rattle.lj_deriv.specs.Plans.{IsPlanOf};
 ghost use Rattle.lj_induced.specs.Rows.{IsRowAt};
-ghost use Rattle.lj_relax.specs.Found.{found_cost};
+ghost use Rattle.lj_relax.specs.Found.{IsLeastFound, found_cost};
 ghost use Rattle.lj_relax.specs.Steps.{Accepts, Publishes};
-ghost use Rattle.lj_relax.specs.Tickets.{TicketLists, snapshot_of};
+ghost use Rattle.lj_relax.specs.Tickets.{TicketLists, snapshot, snapshot_of};
 ghost use Rattle.lj_table.specs.Claiming.{IsClaimed, IsFirst};
 ghost use Rattle.lj_table.specs.Settling.{IsLater, IsTurn, NoneCheaper};
 ghost use Rattle.lj_table.specs.Starting.{IsFresh};
@@ -31,10 +31,10 @@ use crate::starting::begin;
 use crate::store::Store;
 use lj_base::{Cell, Frame, Memory, Row, cells_law, index_law};
 use lj_bitmap::RankMap;
-use lj_cover::laws::{more_uploads_derive, rows_are_of_uploads};
+use lj_cover::laws::{more_uploads_derive, price_by_row, rows_are_of_uploads};
 use lj_deriv::{Arena, Forest, MAX_ARENA_UPLOADS, Plan};
 use lj_relax::laws::{accept_keeps_good, bounds_are_positive, publish_keeps_good, rest_is_least};
-use lj_relax::{Proposal, Ticket, least_instance};
+use lj_relax::{Found, Proposal, Ticket, instance_below};
 use lj_rows::present_rows;
 use lj_upload::Accepted;
 use std::alloc::Global;
@@ -369,7 +369,8 @@ impl Table {
         first_unmarked(self.store.arena.frame(), &self.store.closed)
     }
 
-    // One publication at an open cell over the bounds and rows of now, with no ticket.
+    // One publication at an open cell over the bounds and rows of now, with no ticket; where nothing is cheaper, the
+    // cell is closed.
     fn turn(&mut self, c: Cell, rows: &[Row])
         requires room { 1 ≤ self.old.arena.spare }
         requires first { IsFirst self.old.arena.frame self.old.closed c }
@@ -378,13 +379,44 @@ impl Table {
         ensures turn { IsTurn (index_of self.old.arena.frame c) self.old self.new }
         ensures later { IsLater self.old self.new }
     {
+        match self.cheaper(c, rows) {
+            Some(found) => self.lower(c, rows, &found),
+            None => self.close(c),
+        }
+    }
+
+    // An instance of least price at the cell, where that is below the bound.
+    fn cheaper(&self, c: Cell, rows: &[Row]) -> Option<Found>
+        requires inside { InFrame self.now.arena.frame c }
+        requires rows { rows.now ≡ rows_at self.now.arena.uploads c }
+        requires fit { All (IsRowAt self.now.arena.frame c) rows.now }
+        ensures some { IfSome result
+            (IsLeastFound self.now.arena.frame (snapshot self.now.arena.frame c self.now.bounds rows.now)) }
+        ensures none { result ≡ None → NoneCheaper self.now.arena.frame self.now.bounds self.now.arena.uploads c }
+    {
+        bounds_are_positive();
+        rows_are_of_uploads();
+        price_by_row();
+        let frame = self.store.arena.frame();
+        instance_below(frame, &self.store.bounds, rows, c, self.store.bound(c))
+    }
+
+    // Publishes what was found at an open cell over the bounds and rows of now.
+    fn lower(&mut self, c: Cell, rows: &[Row], found: &Found)
+        requires room { 1 ≤ self.old.arena.spare }
+        requires first { IsFirst self.old.arena.frame self.old.closed c }
+        requires rows { rows.now ≡ rows_at self.old.arena.uploads c }
+        requires found { IsLeastFound self.old.arena.frame
+            (snapshot self.old.arena.frame c self.old.bounds rows.now) found.now }
+        ensures turn { IsTurn (index_of self.old.arena.frame c) self.old self.new }
+        ensures later { IsLater self.old self.new }
+    {
         publish_keeps_good();
         bounds_are_positive();
         rows_are_of_uploads();
         self.store.arena.nodes_derive();
         let frame = self.store.arena.frame();
-        let found = least_instance(frame, &self.store.bounds, rows, c);
-        let _lowered = self.store.lower_here(c, rows, &found);
+        let _lowered = self.store.lower_here(c, rows, found);
         give_back(
             &mut self.store.closed,
             &mut self.store.busy,

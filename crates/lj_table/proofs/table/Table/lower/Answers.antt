@@ -10,7 +10,7 @@ use Rattle.lj_table.specs.Tables.{Contents, Fits, contents_of, mark_at}
 use Rattle.lj_table.proofs.Publications.{later_is, table_is}
 use Rattle.lj_table.proofs.Rested.{still_rested_same}
 use Rattle.lj_table.proofs.RowLists.{all_of}
-use Rattle.lj_table.proofs.table.Table.turn.Goals as goal
+use Rattle.lj_table.proofs.table.Table.lower.Goals as goal
 
 evaluation : goal.After-give_back → Evaluation
 evaluation c = record {
@@ -22,7 +22,7 @@ evaluation c = record {
     rows = c.args.rows.now;
     room = 0;
   };
-  found = c.least_instance-found.result;
+  found = c.args.found.now;
 }
 
 rows_is : (c : goal.After-give_back) → c.args.rows.now ≡ rows_at c.self.inside.store.arena.uploads c.args.c
@@ -55,8 +55,8 @@ least : (c : goal.After-give_back) → IsLeastPrice c.self.inside.store.arena.fr
     (found_cost (evaluation c).found)
 unfolding evaluation
 least c =
-    subst₂ (λ f bs. IsLeastPrice f (snapshot f c.args.c bs c.args.rows.now) (found_cost c.least_instance-found.result))
-    c.frame-frame.ensures c.deref.ensures.value c.least_instance-found.ensures.price
+    subst (λ (t : Contents). IsLeastPrice t.arena.frame (snapshot t.arena.frame c.args.c t.bounds c.args.rows.now)
+    (found_cost c.args.found.now)) (sym c.self.view_is) c.requires.found.price
 
 pub invariant_of-self : goal.invariant_of-self
 unfolding evaluation
