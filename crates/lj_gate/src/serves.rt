@@ -31,8 +31,8 @@ pub struct Served {
 }
 
 /// Serves the sections of a script over one shared table, each as a client of its own, with as many workers as are
-/// given, which is also how many threads each check uses. The table that it ends with is at rest over all accepted
-/// uploads.
+/// given. Each check uses as many threads as there are workers for each client, but at least one. The table that it
+/// ends with is at rest over all accepted uploads.
 pub fn serve<R: Threads + Wait + Sync, G: Gate + Sync>(
     rt: &R,
     alloc: Global,
@@ -70,9 +70,20 @@ fn serve_named<S: Serving + Send + Sync, R: Threads + Wait + Sync, G: Gate + Syn
     } = script;
     let (shared, pass) = Shared::<Accepting<S>>::start(alloc, frame, clients)?;
     let passes = split_all(alloc, shared.board(), pass, clients + workers)?;
-    let sessions = start_all(alloc, frame, sections.into_vec(), workers)?;
+    let threads = threads_of_each(workers, clients);
+    let sessions = start_all(alloc, frame, sections.into_vec(), threads)?;
     let Ran { ends, pass: _ } = run(rt, alloc, &shared, sessions, passes, workers, gate)?;
     close_run(alloc, frame, shared.finish(), ends)
+}
+
+// How many threads each check uses, where all clients may check at once.
+fn threads_of_each(workers: u64, clients: u64) -> u64
+    requires some_workers { 1 ≤ workers }
+    requires few_workers { workers ≤ MAX_WORKERS }
+    ensures some { 1 ≤ result }
+    ensures few { result ≤ MAX_WORKERS }
+{
+    (workers / clients.max(1)).max(1)
 }
 
 fn close_run(alloc: Global, frame: Frame, table: Table, ends: Ends) -> Result<Served, Memory>
@@ -105,20 +116,20 @@ fn split_all<S: Serving>(
     Ok(passes)
 }
 
-// A new session for each section, in order.
+// A new session for each section, in order, whose checks use so many threads.
 fn start_all(
     alloc: Global,
     frame: Frame,
     sections: Vec<Section>,
-    workers: u64,
+    threads: u64,
 ) -> Result<Vec<Session>, Memory>
-    requires some_workers { 1 ≤ workers }
-    requires few_workers { workers ≤ MAX_WORKERS }
+    requires some_threads { 1 ≤ threads }
+    requires few_threads { threads ≤ MAX_WORKERS }
     ensures { IfOk result (λ sessions. sessions.items ≡ map (new_session frame) sections.items) }
 {
     let mut sessions = Vec::with_capacity(alloc, sections.len())?;
     for section in sections {
-        sessions.push(Session::start(alloc, frame, section, workers)?)?;
+        sessions.push(Session::start(alloc, frame, section, threads)?)?;
     }
     Ok(sessions)
 }
