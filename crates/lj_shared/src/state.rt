@@ -90,11 +90,11 @@ impl State {
         ensures err { OnErr result (self.new ≡ self.old) }
         ensures stay { (q : TicketLists) → Fits self.old.table.arena q → Fits self.new.table.arena q }
     {
-        if !self.table.fits(p.ticket()) {
+        let Some(same) = self.table.fit(p.ticket()) else {
             return Ok(None);
-        }
+        };
         self.table.reserve()?;
-        Ok(Some(self.table.publish(p)))
+        Ok(Some(self.table.publish_fitting(p, same)))
     }
 
     /// The first place in `own` whose upload the table does not have. Cost: where the table has them in the order of

@@ -1,4 +1,4 @@
-ghost use Rattle.std.specs.Prelude.{◌≡◌, ◌↔◌, ℕ, ◌<◌, ◌≤◌, IsTrue, length};
+ghost use Rattle.std.specs.Prelude.{◌≡◌, ◌↔◌, ℕ, ◌<◌, ◌≤◌, IsTrue, length, true};
 ghost use Rattle.std.specs.List.{AllByRecursion, HoldsAt};
 ghost use Rattle.lj_base.specs.Bounds.{at_cell};
 ghost use Rattle.lj_base.specs.Cells.{Triple};
@@ -17,17 +17,18 @@ use lj_relax::{Ticket, reads};
 use lj_rows::{row_of, serves};
 use lj_upload::Accepted;
 
-/// Whether a ticket's rows are those of now, and its bounds are so at each cell that its cell reads. Where nothing has
-/// changed, it costs a comparison of the two lists of bounds.
-pub fn agrees(arena: &Arena, bounds: &[u64], ticket: &Ticket) -> bool
+/// Whether a ticket's rows are those of now, and its bounds are so at each cell that its cell reads. Where it is not
+/// known that all its bounds are those of now, it costs a comparison of the two lists.
+pub fn agrees(arena: &Arena, bounds: &[u64], ticket: &Ticket, same: bool) -> bool
     requires fits { Fits arena.now ticket.now }
+    requires same { same ≡ true → ticket.now.bounds ≡ bounds.now }
     requires count { length bounds.now ≡ size_of arena.now.frame }
     ensures { IsTrue result ↔ AgreesWith arena.now bounds.now ticket.now }
 {
     let c = ticket.cell();
     let frame = ticket.frame();
     same_rows(arena.uploads(), frame, c, ticket.rows())
-        && same_bounds(frame, c, ticket.bounds(), bounds)
+        && (same || same_bounds(frame, c, ticket.bounds(), bounds))
 }
 
 // Whether both lists have the same number at each cell that the cell reads.

@@ -1,4 +1,4 @@
-ghost use Rattle.std.specs.Prelude.{◌≡◌, ◌+◌, ◌<◌, ◌≤◌, IfSome, IsTrue, None, length};
+ghost use Rattle.std.specs.Prelude.{◌≡◌, ◌↔◌, ◌+◌, ◌<◌, ◌≤◌, IfSome, IsTrue, None, length};
 ghost use Rattle.lj_table.specs.Differences.{AreSame, IsNextDifference};
 
 // As many numbers are compared at once.
@@ -19,6 +19,17 @@ pub fn next_difference(a: &[u64], b: &[u64], from: usize) -> Option<usize>
         }
     }
     None
+}
+
+/// Whether two lists of the same length are equal.
+pub fn are_equal(a: &[u64], b: &[u64]) -> bool
+    requires same { length b.now ≡ length a.now }
+    ensures { IsTrue result ↔ (b.now ≡ a.now) }
+{
+    match next_difference(a, b, 0) {
+        Some(_) => false,
+        None => true,
+    }
 }
 
 // A place from which on no whole part is equal; all before it is.

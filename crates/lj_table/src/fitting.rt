@@ -1,19 +1,19 @@
-ghost use Rattle.std.specs.Prelude.{◌≡◌, ◌≢◌, ◌↔◌, ◌<◌, ◌≤◌, All, IsTrue, false, length};
+ghost use Rattle.std.specs.Prelude.{◌≡◌, ◌≢◌, ◌↔◌, ◌<◌, ◌≤◌, All, IfSome, IsSome, IsTrue, false, length, true};
 ghost use Rattle.lj_base.specs.Bounds.{at_cell};
 ghost use Rattle.lj_base.specs.Cells.{Triple};
 ghost use Rattle.lj_base.specs.Frames.{InFrame, size_of};
 ghost use Rattle.lj_cover.specs.Instances.{IsRowOf, cut_counts};
 ghost use Rattle.lj_table.specs.Tables.{AreNodes, IsNodeOf, IsTestAt};
 
-use crate::differences::next_difference;
+use crate::differences::{are_equal, next_difference};
 use lj_base::{Cell, Frame, Row, index_law};
 use lj_deriv::Arena;
 use lj_rows::serves;
 use lj_upload::Accepted;
 
-/// Whether each cell's node is there, is of that cell and costs its number. Own nodes and bounds are known to be such,
-/// so that only those that differ from them are looked up. Cost: a comparison of the lists, and a few steps for each
-/// cell at which they differ.
+/// Where each cell's node is there, is of that cell and costs its number, whether the bounds are the table's own. Own
+/// nodes and bounds are known to be such, so that only those that differ from them are looked up. Cost: a comparison of
+/// the lists, and a few steps for each cell at which they differ.
 pub fn are_nodes(
     frame: Frame,
     arena: &Arena,
@@ -21,16 +21,26 @@ pub fn are_nodes(
     own_bounds: &[u64],
     nodes: &[u64],
     bounds: &[u64],
-) -> bool
+) -> Option<bool>
     requires own { AreNodes frame arena.now own_nodes.now own_bounds.now }
     requires own_nodes { length own_nodes.now ≡ size_of frame }
     requires own_bounds { length own_bounds.now ≡ size_of frame }
     requires nodes { length nodes.now ≡ size_of frame }
     requires bounds { length bounds.now ≡ size_of frame }
-    ensures { IsTrue result ↔ AreNodes frame arena.now nodes.now bounds.now }
+    ensures nodes { IsSome result ↔ AreNodes frame arena.now nodes.now bounds.now }
+    ensures same { IfSome result (λ same. same ≡ true → bounds.now ≡ own_bounds.now) }
 {
-    are_nodes_where_differ(frame, arena, own_nodes, nodes, nodes, bounds)
-        && are_nodes_where_differ(frame, arena, own_bounds, bounds, nodes, bounds)
+    if !are_nodes_where_differ(frame, arena, own_nodes, nodes, nodes, bounds) {
+        return None;
+    }
+    if are_equal(own_bounds, bounds) {
+        return Some(true);
+    }
+    if are_nodes_where_differ(frame, arena, own_bounds, bounds, nodes, bounds) {
+        Some(false)
+    } else {
+        None
+    }
 }
 
 // Whether each cell's node is there, is of that cell and costs its number, at the places at which two lists differ.

@@ -1,4 +1,4 @@
-ghost use Rattle.std.specs.Prelude.{◌≡◌, ◌≢◌, ◌↔◌, ℕ, ◌+◌, ◌<◌, ◌≤◌, true, false, IfOk, IfSome, None, OnOk, OnErr};
+ghost use Rattle.std.specs.Prelude.{◌≡◌, ◌≢◌, ◌↔◌, ℕ, ◌+◌, ◌<◌, ◌≤◌, true, false, IfOk, IfSome, IsSome, None, OnOk, OnErr};
 ghost use Rattle.std.specs.Prelude.{IsTrue, All, length, []};
 ghost use Rattle.std.specs.Bool.{OnTrue};
 ghost use Rattle.std.specs.List.{AllByRecursion};
@@ -175,23 +175,35 @@ impl Table {
         self.store.arena.forest(alloc, &self.store.nodes)
     }
 
-    /// Whether what is found over a ticket may be published in this table. Cost: a step for each cell of the frame, and
-    /// a few more for each row and each cell of which the ticket has another bound or node than the table.
+    /// Whether what is found over a ticket may be published in this table. Cost: a comparison of the ticket's lists with
+    /// the table's, and a few steps for each row and each cell of which the ticket has another bound or node.
     pub fn fits(&self, ticket: &Ticket) -> bool
         ensures { IsTrue result ↔ Fits self.now.arena ticket.now }
     {
+        self.fit(ticket).is_some()
+    }
+
+    /// Where a ticket fits the table, whether its bounds are all those of now; `None` where it does not fit. Cost: that
+    /// of `fits`.
+    pub fn fit(&self, ticket: &Ticket) -> Option<bool>
+        ensures fits { IsSome result ↔ Fits self.now.arena ticket.now }
+        ensures same { IfSome result (λ same. same ≡ true → ticket.now.bounds ≡ self.now.bounds) }
+    {
         let store = &self.store;
         let frame = ticket.frame();
-        frame == store.arena.frame()
-            && are_rows(store.arena.uploads(), ticket.cell(), ticket.rows())
-            && are_nodes(
-                frame,
-                &store.arena,
-                &store.nodes,
-                &store.bounds,
-                ticket.nodes(),
-                ticket.bounds(),
-            )
+        if frame != store.arena.frame()
+            || !are_rows(store.arena.uploads(), ticket.cell(), ticket.rows())
+        {
+            return None;
+        }
+        are_nodes(
+            frame,
+            &store.arena,
+            &store.nodes,
+            &store.bounds,
+            ticket.nodes(),
+            ticket.bounds(),
+        )
     }
 }
 
@@ -267,13 +279,31 @@ impl Table {
         ensures spare { self.old.arena.spare ≤ self.new.arena.spare + 1 }
         ensures fits { (q : TicketLists) → Fits self.old.arena q → Fits self.new.arena q }
     {
+        self.publish_fitting(p, false)
+    }
+
+    /// `publish`, where `fit` has shown whether the ticket's bounds are all those of now, which saves comparing them
+    /// once more.
+    pub fn publish_fitting(&mut self, p: &Proposal, same: bool) -> Outcome
+        requires room { 1 ≤ self.old.arena.spare }
+        requires fits { Fits self.old.arena p.now.ticket }
+        requires same { same ≡ true → p.now.ticket.bounds ≡ self.old.bounds }
+        ensures step { Publishes (state_of self.old) (snapshot_of p.now.ticket) (found_cost p.now.found)
+            result.lowered result.agreed (state_of self.new) }
+        ensures untaken { is_taken self.new p.now.ticket.cell ≡ false }
+        ensures taken { (c : Triple) → InFrame self.old.arena.frame c → c ≢ p.now.ticket.cell
+            → is_taken self.new c ≡ is_taken self.old c }
+        ensures nodes { KeepsNodes self.old self.new }
+        ensures spare { self.old.arena.spare ≤ self.new.arena.spare + 1 }
+        ensures fits { (q : TicketLists) → Fits self.old.arena q → Fits self.new.arena q }
+    {
         publish_keeps_good();
         bounds_are_positive();
         rows_are_of_uploads();
         self.store.arena.nodes_derive();
         let _ = p.cost();
         let ticket = p.ticket();
-        let agreed = agrees(&self.store.arena, &self.store.bounds, ticket);
+        let agreed = agrees(&self.store.arena, &self.store.bounds, ticket, same);
         let lowered = self.store.lower(p);
         let i = self.store.arena.frame().index(ticket.cell());
         give_back(&mut self.store.closed, &mut self.store.busy, i, agreed);

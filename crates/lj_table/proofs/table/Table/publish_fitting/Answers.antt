@@ -7,7 +7,7 @@ use Rattle.lj_table.specs.Lowering.{AgreesWith}
 use Rattle.lj_table.specs.Tables.{Contents, Fits, contents_of, is_taken, state_of}
 use Rattle.lj_table.proofs.Publications.{step_is, table_is, taken_kept}
 use Rattle.lj_table.proofs.Rested.{still_rested_same}
-use Rattle.lj_table.proofs.table.Table.publish.Goals as goal
+use Rattle.lj_table.proofs.table.Table.publish_fitting.Goals as goal
 
 fits_before : (c : goal.After-give_back) → Fits c.self.inside.store.arena c.args.p.now.ticket
 fits_before c = subst (λ (x : Contents). Fits x.arena c.args.p.now.ticket) (sym c.self.view_is) c.requires.fits
