@@ -1,8 +1,8 @@
 #!/bin/sh
-# Measures `ljcr build`: scripts of a frame alone, beside the closing of the same bounds by `prices.rs`, a program by
-# hand that prints no report; and generated scripts, many uploads, many blocks and a large body, for which there is no
-# program by hand. It takes ten runs of each, in turn, and prints the best and the median wall time in seconds and the
-# peak memory in megabytes. It needs rustc and GNU time, and takes a minute.
+# Measures `ljcr build`: scripts of a frame alone, beside `building.rs`, a program by hand in safe Rust that reads the
+# frame, closes the bounds and writes the same report; and generated scripts, many uploads, many blocks and a large
+# body, for which there is no program by hand. It takes ten runs of each, in turn, and prints the best and the median
+# wall time in seconds and the peak memory in megabytes. It needs rustc and GNU time, and takes a minute.
 # usage: build.sh LJCR
 set -eu
 ljcr=$1
@@ -10,7 +10,7 @@ here=$(cd "$(dirname "$0")" && pwd)
 work=$(mktemp -d)
 trap 'rm -rf "$work"' EXIT
 . "$here/times.sh"
-rustc -O -C target-cpu=x86-64-v2 --check-cfg 'cfg(unchecked)' -o "$work/closing" "$here/prices.rs"
+rustc -O -C target-cpu=x86-64-v2 --check-cfg 'cfg(unchecked)' -o "$work/building" "$here/building.rs"
 
 # row NAME SIDE..: prints the summary of each side
 row() {
@@ -32,10 +32,10 @@ for frame in '32 6 4' '64 8 4' '99 12 4' '99 25 8'; do
     rm -f "$work"/times_*
     echo "frame $frame" > "$work/script"
     for run in 1 2 3 4 5 6 7 8 9 10; do
-        # shellcheck disable=SC2086
-        measure hand /dev/null "$work/closing" $frame 0
+        measure hand "$work/script" "$work/building"
         measure ljcr "$work/script" "$ljcr" build
     done
+    cmp "$work/output_hand" "$work/output_ljcr"
     row "frame_$(echo "$frame" | tr ' ' '_')" hand ljcr
 done
 
