@@ -4,6 +4,8 @@
 #[cfg(test)]
 mod calls;
 #[cfg(test)]
+mod forest_tests;
+#[cfg(test)]
 mod replay_tests;
 #[cfg(test)]
 mod runs;
