@@ -25,8 +25,8 @@ fn a_forest_of_a_settled_table_has_a_root_for_each_cell(rt: HostRuntime) -> Resu
     Ok(())
 }
 
-// Whether the table's forest has as many roots as its frame has cells, each of the cell at its place in index order, and
-// at the cost of its bound.
+// Whether the table's forest has as many roots as its frame has cells, each of the cell at its place in index order,
+// and at the cost of its bound.
 fn has_each_root(alloc: Global, table: &Table) -> Result<bool, Memory> {
     let forest = table.forest(alloc)?;
     let cells = table.frame().size();
