@@ -46,7 +46,7 @@ no_bound = record { cell = triple 0 0 0; bound = 0; node = 0 }
 abbrev bound_cell : CertBound → Triple
 bound_cell b = b.cell
 
-abbrev bound_number : CertBound → ℕ
+abbrev pub bound_number : CertBound → ℕ
 bound_number b = b.bound
 
 -- at a cell's index stands its bound
@@ -61,7 +61,7 @@ pub record PlacesLaw (frame : Top) : Type 0 where
   pub below : (c : Triple) → InFrame frame c → index_of frame c < size_of frame
   pub count : length (cells_of frame) ≡ size_of frame
 
-bound_count : (cert : CertValue) → PlacesLaw cert.frame → IsFormed cert.frame cert.uploads cert.bounds
+pub bound_count : (cert : CertValue) → PlacesLaw cert.frame → IsFormed cert.frame cert.uploads cert.bounds
     → length cert.bounds ≡ size_of cert.frame
 bound_count cert law formed =
     sym (length-map cert.bounds bound_cell) ∙ ap length formed.cells ∙ law.count

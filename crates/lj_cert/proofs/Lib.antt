@@ -7,3 +7,10 @@ mod Faulty
 mod FieldLists
 pub mod Least
 pub mod OneRefusal
+pub mod StoredUses
+pub mod Looking
+pub mod Keeping
+pub mod LowCells
+pub mod NoUses
+pub mod Outcomes
+pub mod BaseCosts

@@ -6,3 +6,7 @@ pub mod Unfolding
 pub mod Good
 pub mod Refusals
 pub mod Rests
+pub mod Places
+pub mod Storing
+pub mod Holding
+pub mod Lowest
