@@ -14,3 +14,10 @@ pub mod LowCells
 pub mod NoUses
 pub mod Outcomes
 pub mod BaseCosts
+mod TextLines
+mod PutLines
+mod WrittenLines
+pub mod WrittenCerts
+pub mod WrittenGood
+pub mod WrittenFacts
+pub mod Writable

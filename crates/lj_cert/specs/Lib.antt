@@ -10,3 +10,4 @@ pub mod Places
 pub mod Storing
 pub mod Holding
 pub mod Lowest
+pub mod Texts

@@ -17,6 +17,8 @@ mod reading;
 mod refusals;
 mod rests;
 mod storing;
+mod writing;
+mod written;
 
 pub use auditing::audit;
 pub use certs::{Cert, CertBound, CertChild, CertNode, CertPart, CertRule, CertUpload};
@@ -27,6 +29,8 @@ pub use lists::{CertBlocks, CertBounds, CertChildren, CertNodes, CertParts, Cert
 pub use reading::read_cert;
 pub use refusals::No;
 pub use rests::Rest;
+pub use writing::write_cert;
+pub use written::{forests_are_writable, written_certificates_are_good, written_law};
 
 #[cfg(test)]
 mod audit_tests;
