@@ -4,7 +4,8 @@ ghost use Rattle.lj_base.specs.Frames.{InFrame, cells_of, size_of};
 ghost use Rattle.lj_text.specs.Fields.{Extends};
 ghost use Rattle.lj_text.specs.Lines.{with_feeds};
 ghost use Rattle.lj_cert.specs.Certificates.{IsCert};
-ghost use Rattle.lj_cert.specs.Texts.{IsWritable, bound_line, bound_lines, cell_numbers, cert_of, cert_text, frame_line};
+ghost use Rattle.lj_cert.specs.Texts.{IsWritable, bound_line, bound_lines, cell_numbers, cert_of, cert_text};
+ghost use Rattle.lj_cert.specs.Texts.{frame_line};
 ghost use Rattle.lj_cert.specs.Texts.{upload_line, upload_lines};
 
 use crate::written::written_law;

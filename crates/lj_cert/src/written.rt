@@ -29,7 +29,7 @@ pub fn forests_are_writable(frame: Frame, uploads: &[Accepted], forest: &Forest,
     let _ = forest.len();
 }
 
-/// A certificate that is written reads back: its text spells the frame, the uploads, the forest's nodes, and the bounds.
+/// A certificate that is written reads back: its text spells the frame, the uploads, the forest's nodes and the bounds.
 /// It takes a step for each upload.
 pub fn written_law(frame: Frame, uploads: &[Accepted], forest: &Forest, bounds: &[u64])
     requires { IsWritable frame uploads.now forest.now bounds.now }
@@ -48,8 +48,8 @@ pub fn written_law(frame: Frame, uploads: &[Accepted], forest: &Forest, bounds: 
     let _ = forest.len();
 }
 
-/// A certificate that is written is good, where its uploads are within the limits of a check and each bound is the least
-/// cost of any derivation in the frame from the uploads. It takes a step for each upload.
+/// A certificate that is written is good, where its uploads are within the limits of a check and each bound is the
+/// least cost of any derivation in the frame from the uploads. It takes a step for each upload.
 pub fn written_certificates_are_good(
     frame: Frame,
     uploads: &[Accepted],

@@ -192,7 +192,8 @@ none_cheaper rows_are by_row t table r h e c at later =
 -- no price over the bounds and rows of now is below the bound, so no instance is cheaper
 pub none_priced : RowsOfUploads → PricedByRow → (t : Contents) → IsTable t → (c : Triple) (rows : List Row)
     → rows ≡ rows_at t.arena.uploads c
-    → ((n : ℕ) → IsPrice t.arena.frame (snapshot t.arena.frame c t.bounds rows) n → at_cell t.arena.frame t.bounds c ≤ n)
+    → ((n : ℕ) → IsPrice t.arena.frame (snapshot t.arena.frame c t.bounds rows) n
+    → at_cell t.arena.frame t.bounds c ≤ n)
     → NoneCheaper t.arena.frame t.bounds t.arena.uploads c
 none_priced rows_are by_row t table c rows e low =
     let b = at_cell t.arena.frame t.bounds in

@@ -1,5 +1,5 @@
-ghost use Rattle.std.specs.Prelude.{◌≡◌, ◌≢◌, ◌↔◌, ℕ, ◌+◌, ◌<◌, ◌≤◌, true, false, IfOk, IfSome, IsSome, None, OnOk, OnErr};
-ghost use Rattle.std.specs.Prelude.{IsTrue, All, length, []};
+ghost use Rattle.std.specs.Prelude.{◌≡◌, ◌≢◌, ◌↔◌, ℕ, ◌+◌, ◌<◌, ◌≤◌, true, false, IfOk, IfSome, None, OnOk, OnErr};
+ghost use Rattle.std.specs.Prelude.{IsSome, IsTrue, All, length, []};
 ghost use Rattle.std.specs.Bool.{OnTrue};
 ghost use Rattle.std.specs.List.{AllByRecursion};
 ghost use Rattle.lj_base.specs.Bounds.{at_cell};
@@ -175,8 +175,8 @@ impl Table {
         self.store.arena.forest(alloc, &self.store.nodes)
     }
 
-    /// Whether what is found over a ticket may be published in this table. Cost: a comparison of the ticket's lists with
-    /// the table's, and a few steps for each row and each cell of which the ticket has another bound or node.
+    /// Whether what is found over a ticket may be published in this table. Cost: a comparison of the ticket's lists
+    /// with the table's, and a few steps for each row and each cell of which the ticket has another bound or node.
     pub fn fits(&self, ticket: &Ticket) -> bool
         ensures { IsTrue result ↔ Fits self.now.arena ticket.now }
     {
