@@ -7,10 +7,11 @@ use Rattle.lj_verify.specs.declared.limits.TheConstants.{MAX_WORKERS}
 use Rattle.lj_cli.specs.Given.{Arguments, IsFew, given_by}
 use Rattle.lj_base.specs.Cells.{Triple}
 use Rattle.lj_cli.specs.GoodWords.{GoodWords, IsBuildCall, IsCall, IsCellCall, IsCheckCall, IsGenCall, IsWorkers}
-use Rattle.lj_cli.specs.GoodWords.{IsBigCall, IsServeCall, TakesNumbers}
+use Rattle.lj_cli.specs.GoodWords.{IsAuditCall, IsBigCall, IsServeCall, TakesNumbers}
 use Rattle.lj_cli.specs.declared.words.BigCall.{BigCall}
 use Rattle.lj_cli.specs.declared.words.Call.{Call}
 use Rattle.lj_cli.specs.declared.words.Call.TheVariants.{Check, Build, Serve, Gen, Big, Excess, Greedy, Reduce}
+use Rattle.lj_cli.specs.declared.words.Call.TheVariants.{Certify, Audit}
 use Rattle.lj_cli.specs.declared.words.CheckCall.{CheckCall}
 use Rattle.lj_cli.specs.declared.words.ServeCall.{ServeCall}
 
@@ -27,6 +28,8 @@ command_name (Big call) = codes "big"
 command_name (Excess cell) = codes "excess"
 command_name (Greedy cell) = codes "greedy"
 command_name (Reduce cell) = codes "reduce"
+command_name Certify = codes "certify"
+command_name (Audit workers) = codes "audit"
 
 named : (name : List ℕ) (g : Arguments) (call : Call) → IsCall name g call → name ≡ command_name call
 named name g (Check call) h = h.0
@@ -37,6 +40,8 @@ named name g (Big call) h = h.0
 named name g (Excess cell) h = h.0
 named name g (Greedy cell) h = h.0
 named name g (Reduce cell) h = h.0
+named name g Certify h = h.0
+named name g (Audit workers) h = h.0
 
 -- no name is two texts
 other_name : {a b name : List ℕ} → name ≡ a → name ≡ b → bytes_eq a b ≡ false → ⊥
@@ -95,6 +100,10 @@ one_gen g h m n same call asks =
     let numbers = sym call.0 ∙ ap (λ (x : Arguments). x.numbers) same ∙ asks.0 in
     ap (λ ns. get_or ns 0 0) numbers
 
+one_audit : (g h : Arguments) (n m : ℕ) → g ≡ h → IsAuditCall g n → IsAuditCall h m → n ≡ m
+one_audit g h n m same call asks =
+    same_workers h.workers n m (subst (λ (x : Arguments). IsWorkers x.workers n) same call.1) asks.1
+
 one_of : (name : List ℕ) (g h : Arguments) (c d : Call) → g ≡ h → IsCall name g c → IsCall name h d → c ≡ d
 one_of name g h (Check c) (Check d) same call asks = ap Check (one_check g h c d same call.1 asks.1)
 one_of name g h (Build a) (Build b) same call asks = ap Build (one_build g h a b same call.1 asks.1)
@@ -104,6 +113,8 @@ one_of name g h (Big c) (Big d) same call asks = ap Big (one_big g h c d same ca
 one_of name g h (Excess c) (Excess d) same call asks = ap Excess (one_cell g h c d same call.1 asks.1)
 one_of name g h (Greedy c) (Greedy d) same call asks = ap Greedy (one_cell g h c d same call.1 asks.1)
 one_of name g h (Reduce c) (Reduce d) same call asks = ap Reduce (one_cell g h c d same call.1 asks.1)
+one_of name g h Certify Certify same call asks = refl
+one_of name g h (Audit n) (Audit m) same call asks = ap Audit (one_audit g h n m same call.1 asks.1)
 one_of name g h c d same call asks = absurd (other_name (named name g c call) (named name h d asks) refl)
 
 pub one_call : (words : List (List ℕ)) (c d : Call) → GoodWords words c → GoodWords words d → c ≡ d
@@ -127,6 +138,8 @@ numbers_of name g (Big call) h = (h.1.1, h.1.2, h.1.4, h.1.5)
 numbers_of name g (Excess cell) h = h.1.2
 numbers_of name g (Greedy cell) h = h.1.2
 numbers_of name g (Reduce cell) h = h.1.2
+numbers_of name g Certify h = tt
+numbers_of name g (Audit workers) h = some_workers g.workers workers h.1.1
 
 -- the numbers of a good call are those that it takes
 pub takes_numbers : (words : List (List ℕ)) (call : Call) → GoodWords words call → TakesNumbers call
@@ -179,6 +192,16 @@ few_of name g (Gen m) h = (
 few_of name g (Excess cell) h = few_for_cell g cell h.1
 few_of name g (Greedy cell) h = few_for_cell g cell h.1
 few_of name g (Reduce cell) h = few_for_cell g cell h.1
+few_of name g Certify h = (
+  omega (arith, ap (λ (ns : List ℕ). length ns) h.1.0),
+  omega (arith, ap (λ (ns : List ℕ). length ns) h.1.1),
+  omega (arith, h.1.2),
+)
+few_of name g (Audit workers) h = (
+  omega (arith, ap (λ (ns : List ℕ). length ns) h.1.0),
+  few_workers g.workers workers h.1.1,
+  omega (arith, h.1.2),
+)
 
 -- words that give more than a command takes call for none, whatever else is returned
 pub none_few : (name : List ℕ) (words : List (List ℕ)) → IfSome (given_by words) (λ g. IsFew g → ⊥)

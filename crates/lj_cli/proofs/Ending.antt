@@ -4,10 +4,9 @@ use Rattle.std.proofs.Common.{Err, IfOk, MatchResult, Ok, Result, arith}
 use Rattle.std.proofs.Common.{◌++◌, append-nil, inl, inr, length-append, ⊎_elim}
 use Rattle.std.proofs.lemmas.Option.{IfSome_then}
 use Rattle.lj_base.specs.Streams.{Appends, Consumes, IsAtEnd, Rose}
-use Rattle.lj_base.specs.declared.limits.TheConstants.{MAX_INPUT}
 use Rattle.lj_text.specs.Inputs.{HasRead}
-use Rattle.lj_cli.specs.Ends.{Ends, EndsUnread, EndsWithOutput, EndsWithText, EndsWithUsage, HasOutput, Input}
-use Rattle.lj_cli.specs.Ends.{IsComplete, Output, Prints, PrintsNothing, too_large_text, usage_text}
+use Rattle.lj_cli.specs.Ends.{EndsUnread, EndsWithOutput, EndsWithText, EndsWithUsage, EndsWithin, HasOutput, Input}
+use Rattle.lj_cli.specs.Ends.{IsCompleteWithin, Output, Prints, PrintsNothing, too_large_text, usage_text}
 use Rattle.lj_cli.specs.declared.prints.Made.{Made}
 use Rattle.lj_cli.specs.declared.status.TheConstants.{BAD_WORDS, DONE, NO_MEMORY, TOO_LARGE}
 
@@ -18,12 +17,13 @@ printed o text status ended (inl h) calm = (h.0, h.1)
 printed o text status ended (inr h) calm = absurd (calm h.1)
 
 -- what was made of an input that was read to its end, and printed
-pub made_ends : {E : Type 0} (output : List ℕ → List ℕ → ℕ → Type 0) (i : Input) (o : Output) (bytes lent : List ℕ)
-    (ended : ℕ) (made : Result Made E) → lent ≡ bytes → IfOk made (λ m. output lent m.text.items m.status)
+pub made_ends : {E : Type 0} (limit : ℕ) (output : List ℕ → List ℕ → ℕ → Type 0) (i : Input) (o : Output)
+    (bytes lent : List ℕ) (ended : ℕ) (made : Result Made E) → lent ≡ bytes
+    → IfOk made (λ m. output lent m.text.items m.status)
     → MatchResult made (λ m. Prints o m.text.items m.status ended) (λ e. PrintsNothing o ended)
-    → HasRead i.left i.left_now bytes MAX_INPUT → IsAtEnd i.left_now → i.faults_now ≡ i.faults
-    → Ends output i o ended
-made_ends output i o bytes lent ended (Ok m) same is put read at_end no_fault = inl (record {
+    → HasRead i.left i.left_now bytes limit → IsAtEnd i.left_now → i.faults_now ≡ i.faults
+    → EndsWithin limit output i o ended
+made_ends limit output i o bytes lent ended (Ok m) same is put read at_end no_fault = inl (record {
   bytes = bytes;
   text = m.text.items;
   status = m.status;
@@ -33,7 +33,7 @@ made_ends output i o bytes lent ended (Ok m) same is put read at_end no_fault = 
   at_end = at_end;
   no_fault = no_fault;
 })
-made_ends output i o bytes lent ended (Err e) same is none read at_end no_fault = inr (inr (inr (record {
+made_ends limit output i o bytes lent ended (Err e) same is none read at_end no_fault = inr (inr (inr (record {
   status = none.status;
   bytes = bytes;
   read = read;
@@ -66,13 +66,13 @@ everywhere None P f = tt
 everywhere (Some x) P f = f x
 
 -- an input within the limit has its output, unless memory runs out
-abbrev SmallEnds : (List ℕ → List ℕ → ℕ → Type 0) → Input → Output → ℕ → List ℕ → Type 0
-SmallEnds output i o ended all = length all ≤ MAX_INPUT → (Rose i.faults i.faults_now → ⊥)
+abbrev SmallEnds : ℕ → (List ℕ → List ℕ → ℕ → Type 0) → Input → Output → ℕ → List ℕ → Type 0
+SmallEnds limit output i o ended all = length all ≤ limit → (Rose i.faults i.faults_now → ⊥)
     → (Rose o.faults o.faults_now → ⊥) → HasOutput output all o ended ⊎ (ended ≡ NO_MEMORY)
 
-pub small : (output : List ℕ → List ℕ → ℕ → Type 0) (i : Input) (o : Output) (ended : ℕ) → Ends output i o ended
-    → IfSome i.left (SmallEnds output i o ended)
-small output i o ended (inl h) =
+pub small : (limit : ℕ) (output : List ℕ → List ℕ → ℕ → Type 0) (i : Input) (o : Output) (ended : ℕ)
+    → EndsWithin limit output i o ended → IfSome i.left (SmallEnds limit output i o ended)
+small limit output i o ended (inl h) =
     IfSome_then i.left (whole_is i.left i.left_now h.bytes h.read.taken h.at_end) (λ all is few quiet calm.
     let done = printed o h.text h.status ended h.printed calm in
     inl (
@@ -81,39 +81,41 @@ small output i o ended (inl h) =
           (subst (λ n. output h.bytes h.text n) (sym done.0) h.belongs),
       done.1,
     ))
-small output i o ended (inr (inl h)) =
+small limit output i o ended (inr (inl h)) =
     let over = h.read.more in
     IfSome_then i.left (front_is i.left i.left_now h.read.bytes h.read.read.taken)
     (λ all more few quiet calm. absurd (omega (arith, over, more, few)))
-small output i o ended (inr (inr (inl h))) =
-    everywhere i.left (SmallEnds output i o ended) (λ all few quiet calm. absurd (quiet h.failed))
-small output i o ended (inr (inr (inr h))) =
-    everywhere i.left (SmallEnds output i o ended) (λ all few quiet calm. inr h.status)
+small limit output i o ended (inr (inr (inl h))) =
+    everywhere i.left (SmallEnds limit output i o ended) (λ all few quiet calm. absurd (quiet h.failed))
+small limit output i o ended (inr (inr (inr h))) =
+    everywhere i.left (SmallEnds limit output i o ended) (λ all few quiet calm. inr h.status)
 
 -- a larger input is refused, unless memory runs out
-abbrev LargeEnds : Input → Output → ℕ → List ℕ → Type 0
-LargeEnds i o ended all = MAX_INPUT < length all → (Rose i.faults i.faults_now → ⊥)
+abbrev LargeEnds : ℕ → Input → Output → ℕ → List ℕ → Type 0
+LargeEnds limit i o ended all = limit < length all → (Rose i.faults i.faults_now → ⊥)
     → (Rose o.faults o.faults_now → ⊥)
     → ((ended ≡ TOO_LARGE) × Appends o.written o.written_now too_large_text) ⊎ (ended ≡ NO_MEMORY)
 
-large : (output : List ℕ → List ℕ → ℕ → Type 0) (i : Input) (o : Output) (ended : ℕ) → Ends output i o ended
-    → IfSome i.left (LargeEnds i o ended)
-large output i o ended (inl h) =
+large : (limit : ℕ) (output : List ℕ → List ℕ → ℕ → Type 0) (i : Input) (o : Output) (ended : ℕ)
+    → EndsWithin limit output i o ended
+    → IfSome i.left (LargeEnds limit i o ended)
+large limit output i o ended (inl h) =
     let within = h.read.within in
     IfSome_then i.left (whole_is i.left i.left_now h.bytes h.read.taken h.at_end) (λ all is more quiet calm.
     let count : length h.bytes ≡ length all = ap length is in
     absurd (omega (arith, more, within, count)))
-large output i o ended (inr (inl h)) =
-    everywhere i.left (LargeEnds i o ended)
+large limit output i o ended (inr (inl h)) =
+    everywhere i.left (LargeEnds limit i o ended)
     (λ all more quiet calm. inl (printed o too_large_text TOO_LARGE ended h.printed calm))
-large output i o ended (inr (inr (inl h))) =
-    everywhere i.left (LargeEnds i o ended) (λ all more quiet calm. absurd (quiet h.failed))
-large output i o ended (inr (inr (inr h))) =
-    everywhere i.left (LargeEnds i o ended) (λ all more quiet calm. inr h.status)
+large limit output i o ended (inr (inr (inl h))) =
+    everywhere i.left (LargeEnds limit i o ended) (λ all more quiet calm. absurd (quiet h.failed))
+large limit output i o ended (inr (inr (inr h))) =
+    everywhere i.left (LargeEnds limit i o ended) (λ all more quiet calm. inr h.status)
 
-pub complete : (output : List ℕ → List ℕ → ℕ → Type 0) (i : Input) (o : Output) (ended : ℕ) → Ends output i o ended
-    → IsComplete output i o ended
-complete output i o ended h = record { small = small output i o ended h; large = large output i o ended h }
+pub complete : (limit : ℕ) (output : List ℕ → List ℕ → ℕ → Type 0) (i : Input) (o : Output) (ended : ℕ)
+    → EndsWithin limit output i o ended → IsCompleteWithin limit output i o ended
+complete limit output i o ended h =
+    record { small = small limit output i o ended h; large = large limit output i o ended h }
 
 -- a text that needs no input is printed whole, unless memory runs out
 pub unread : (text : List ℕ) (i : Input) (o : Output) (ended : ℕ) → EndsUnread (EndsWithText text) i o ended

@@ -162,7 +162,7 @@ module _ (scripts : (bytes : List ℕ) (a b : ScriptValue) → IsScript bytes a 
       → (Rose i.faults i.faults_now → ⊥) → (Rose o.faults o.faults_now → ⊥)
       → HasServed script json o ended ⊎ (ended ≡ NO_MEMORY))
   script_ends json i o ended script h =
-      IfSome_then i.left (small (IsServeCommandOutput json) i o ended h) (λ all ends few is quiet calm. ⊎_elim
+      IfSome_then i.left (small MAX_INPUT (IsServeCommandOutput json) i o ended h) (λ all ends few is quiet calm. ⊎_elim
       (λ (done : HasOutput (IsServeCommandOutput json) all o ended).
       let served = of_script json all done.0 ended script done.1 is in inl (done.0, served.0, served.1, done.2))
       (λ (ran_out : ended ≡ NO_MEMORY). inr ran_out) (ends few quiet calm))
@@ -174,7 +174,7 @@ module _ (scripts : (bytes : List ℕ) (a b : ScriptValue) → IsScript bytes a 
       → (Rose i.faults i.faults_now → ⊥) → (Rose o.faults o.faults_now → ⊥)
       → ((ended ≡ FAULTY) × Appends o.written o.written_now (script_fault_line fault)) ⊎ (ended ≡ NO_MEMORY))
   fault_ends json i o ended fault h =
-      IfSome_then i.left (small (IsServeCommandOutput json) i o ended h) (λ all ends few is quiet calm. ⊎_elim
+      IfSome_then i.left (small MAX_INPUT (IsServeCommandOutput json) i o ended h) (λ all ends few is quiet calm. ⊎_elim
       (λ (done : HasOutput (IsServeCommandOutput json) all o ended).
       let line = of_fault json all done.0 ended fault done.1 is in
       inl (line.0, subst (λ (text : List ℕ). Appends o.written o.written_now text) line.1 done.2))

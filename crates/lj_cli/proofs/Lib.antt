@@ -8,3 +8,7 @@ pub mod Replied
 pub mod Headlines
 pub mod Serving
 pub mod Summing
+pub mod HeldUploads
+pub mod Certified
+pub mod Auditing
+pub mod Certifying

@@ -8,6 +8,7 @@ use Rattle.lj_cli.specs.Given.{Arguments, given_by}
 use Rattle.lj_cli.specs.declared.words.BigCall.{BigCall}
 use Rattle.lj_cli.specs.declared.words.Call.{Call}
 use Rattle.lj_cli.specs.declared.words.Call.TheVariants.{Check, Build, Serve, Gen, Big, Excess, Greedy, Reduce}
+use Rattle.lj_cli.specs.declared.words.Call.TheVariants.{Certify, Audit}
 use Rattle.lj_cli.specs.declared.words.CheckCall.{CheckCall}
 use Rattle.lj_cli.specs.declared.words.ServeCall.{ServeCall}
 
@@ -50,6 +51,14 @@ abbrev pub IsBigCall : Arguments → BigCall → Type 0
 IsBigCall g call = (g.numbers ≡ call.m ∷ []) × (MIN_DIMENSION ≤ call.m) × (call.m ≤ MAX_DIMENSION)
     × (g.workers ≡ call.workers ∷ []) × (1 ≤ call.workers) × (call.workers ≤ MAX_WORKERS) × (g.json ≡ 0)
 
+-- certify
+abbrev pub IsCertifyCall : Arguments → Type 0
+IsCertifyCall g = (g.numbers ≡ []) × (g.workers ≡ []) × (g.json ≡ 0)
+
+-- audit [--workers N]
+abbrev pub IsAuditCall : Arguments → ℕ → Type 0
+IsAuditCall g workers = (g.numbers ≡ []) × IsWorkers g.workers workers × (g.json ≡ 0)
+
 -- the command's name and what was given after it call for this
 abbrev pub IsCall : List ℕ → Arguments → Call → Type 0
 IsCall name g (Check call) = (name ≡ codes "check") × IsCheckCall g call
@@ -60,6 +69,8 @@ IsCall name g (Big call) = (name ≡ codes "big") × IsBigCall g call
 IsCall name g (Excess cell) = (name ≡ codes "excess") × IsCellCall g cell
 IsCall name g (Greedy cell) = (name ≡ codes "greedy") × IsCellCall g cell
 IsCall name g (Reduce cell) = (name ≡ codes "reduce") × IsCellCall g cell
+IsCall name g Certify = (name ≡ codes "certify") × IsCertifyCall g
+IsCall name g (Audit workers) = (name ≡ codes "audit") × IsAuditCall g workers
 
 -- these words call for this command
 abbrev pub GoodWords : List (List ℕ) → Call → Type 0
@@ -77,3 +88,5 @@ TakesNumbers (Big call) = (MIN_DIMENSION ≤ call.m) × (call.m ≤ MAX_DIMENSIO
 TakesNumbers (Excess cell) = 1 ≤ cell.k
 TakesNumbers (Greedy cell) = 1 ≤ cell.k
 TakesNumbers (Reduce cell) = 1 ≤ cell.k
+TakesNumbers Certify = Unit {0}
+TakesNumbers (Audit workers) = (1 ≤ workers) × (workers ≤ MAX_WORKERS)

@@ -4,6 +4,8 @@ pub mod Verdicts
 pub mod CheckOutput
 pub mod BuildOutput
 pub mod CountOutput
+pub mod AuditOutput
+pub mod CertifyOutput
 pub mod Ends
 pub mod ServeOutput
 pub mod Headline

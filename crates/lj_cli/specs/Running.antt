@@ -4,16 +4,20 @@ use Rattle.lj_base.specs.Streams.{Appends}
 use Rattle.lj_build.specs.Runs.{IsBuildOutput}
 use Rattle.lj_gen.specs.Generated.{gen_text}
 use Rattle.lj_script.specs.Values.{ScriptValue}
+use Rattle.lj_cli.specs.AuditOutput.{IsAuditOutput}
 use Rattle.lj_cli.specs.BigOutput.{IsBigCommandOutput}
 use Rattle.lj_cli.specs.BuildOutput.{IsBuildCommandOutput}
+use Rattle.lj_cli.specs.CertifyOutput.{IsCertifyOutput}
 use Rattle.lj_cli.specs.CheckOutput.{IsCheckOutput}
 use Rattle.lj_cli.specs.CountOutput.{IsExcessOutput, IsGreedyOutput, IsReduceOutput}
-use Rattle.lj_cli.specs.Ends.{Ends, EndsUnread, EndsWithOutput, EndsWithText, Input, Output}
+use Rattle.lj_cli.specs.Ends.{Ends, EndsUnread, EndsWithin, EndsWithOutput, EndsWithText, Input, Output}
 use Rattle.lj_cli.specs.Headline.{HasHeadline}
 use Rattle.lj_cli.specs.ServeOutput.{IsServeCommandOutput, IsServeOutput}
+use Rattle.lj_cli.specs.declared.limits.TheConstants.{MAX_CERT_INPUT}
 use Rattle.lj_cli.specs.declared.status.TheConstants.{DONE}
 use Rattle.lj_cli.specs.declared.words.Call.{Call}
 use Rattle.lj_cli.specs.declared.words.Call.TheVariants.{Check, Build, Serve, Gen, Big, Excess, Greedy, Reduce}
+use Rattle.lj_cli.specs.declared.words.Call.TheVariants.{Certify, Audit}
 
 -- how a run of `serve` ends, and that it keeps the promises of the headline
 pub record EndsServed (json : Bool) (i : Input) (o : Output) (ended : ℕ) : Type 0 where
@@ -30,6 +34,8 @@ EndsAs (Gen m) i o ended = EndsUnread (EndsWithText (gen_text m)) i o ended
 EndsAs (Excess cell) i o ended = Ends (IsExcessOutput cell) i o ended
 EndsAs (Greedy cell) i o ended = EndsUnread (EndsWithOutput (IsGreedyOutput cell)) i o ended
 EndsAs (Reduce cell) i o ended = Ends (IsReduceOutput cell) i o ended
+EndsAs Certify i o ended = Ends IsCertifyOutput i o ended
+EndsAs (Audit workers) i o ended = EndsWithin MAX_CERT_INPUT IsAuditOutput i o ended
 
 -- a text that the script comes to was written whole, and the run ended well
 abbrev pub HasBuilt : ScriptValue → Bool → Output → ℕ → Type 0

@@ -3,10 +3,16 @@
 //! counts the sets of coverings, makes coverings, and removes spare blocks.
 #![tactic(auto)]
 
+mod audit;
+mod audit_lines;
 mod big;
 mod build;
 #[cfg(test)]
 mod build_rows;
+mod cert_laws;
+#[cfg(test)]
+mod cert_rows;
+mod certify;
 mod check;
 #[cfg(test)]
 mod count_rows;
@@ -20,6 +26,7 @@ mod generate;
 mod given;
 mod greedy;
 mod laws;
+mod limits;
 mod prints;
 mod reduce;
 mod replies;
@@ -40,8 +47,11 @@ mod verdicts;
 mod word_rows;
 mod words;
 
+pub use audit::audit_run;
 pub use big::big_run;
 pub use build::build_run;
+pub use cert_laws::{audit_output_law, cert_complete_law, certify_output_law};
+pub use certify::certify_run;
 pub use check::check_run;
 pub use excess::excess_run;
 pub use generate::gen_run;
@@ -51,13 +61,15 @@ pub use laws::{
     build_complete_law, build_output_law, complete_law, count_law, count_output_law, output_law,
     words_law,
 };
+pub use limits::MAX_CERT_INPUT;
 use lj_base::{StdSink, StdSource};
 use lj_gate::FreeGate;
 pub use reduce::reduce_run;
 pub use serve::serve_run;
 pub use serve_laws::{equal_reports_law, headline_law, serve_complete_law, served_whole_law};
 pub use status::{
-    BAD_WORDS, DONE, FAULTY, NO_MEMORY, NO_WORDS, READ_FAILED, TOO_LARGE, UNCOVERED, WRITE_FAILED,
+    BAD_WORDS, DONE, FAULTY, NO_MEMORY, NO_WORDS, NOT_GOOD, READ_FAILED, TOO_LARGE, UNCOVERED,
+    WRITE_FAILED,
 };
 use std::process::ExitCode;
 use std::{env, io};

@@ -1,5 +1,4 @@
-ghost use Rattle.std.specs.Prelude.{◌≡◌, ◌++◌, MatchResult, OnOk};
-ghost use Rattle.lj_base.specs.declared.limits.TheConstants.{MAX_INPUT};
+ghost use Rattle.std.specs.Prelude.{◌≡◌, ℕ, ◌++◌, MatchResult, OnOk};
 ghost use Rattle.lj_text.specs.Inputs.{HasCause};
 ghost use Rattle.lj_cli.specs.CountOutput.{number_line};
 ghost use Rattle.lj_cli.specs.Ends.{EndsEarly, Prints, PrintsNothing, output_of, too_large_text, usage_text};
@@ -39,8 +38,8 @@ pub(crate) fn print_made<K: Sink>(out: &mut K, made: Result<Made, Memory>) -> u8
 
 // Ends where not all of an input was read. Returns the status.
 pub(crate) fn end_early<K: Sink>(out: &mut K, fail: ReadFail) -> u8
-    ensures { (i : _) → HasCause MAX_INPUT i.left i.left_now i.faults i.faults_now fail →
-        EndsEarly i (output_of K.written K.faults out.old out.new) result }
+    ensures { (limit : ℕ) (i : _) → HasCause limit i.left i.left_now i.faults i.faults_now fail →
+        EndsEarly limit i (output_of K.written K.faults out.old out.new) result }
 {
     match fail {
         ReadFail::ReadFault { .. } => READ_FAILED,
@@ -62,7 +61,7 @@ pub(crate) fn print_usage<K: Sink>(out: &mut K) -> u8
     print(
         out,
         b"usage: ljcr check V K T [--workers N] | build [--json] | serve --workers N [--json] | gen M \
-        | big M --workers N | excess V K T | greedy V K T | reduce V K T\n",
+        | big M --workers N | excess V K T | greedy V K T | reduce V K T | certify | audit [--workers N]\n",
         BAD_WORDS,
     )
 }

@@ -33,7 +33,7 @@ fn put_script_fault(out: &mut Vec<u8>, fault: &ScriptFault) -> Result<(), Memory
 }
 
 // Appends the number of a line, and what is wrong with it.
-fn put_at_line(out: &mut Vec<u8>, line: u64, words: &[u8]) -> Result<(), Memory>
+pub(crate) fn put_at_line(out: &mut Vec<u8>, line: u64, words: &[u8]) -> Result<(), Memory>
     ensures { OnOk result (out.new.items ≡ out.old.items ++ at_line line words.now) }
 {
     put_named(out, b"line", &[line])?;

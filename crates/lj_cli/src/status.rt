@@ -6,6 +6,9 @@ pub const DONE: u8 = 0;
 /// Some set is in no block of the input.
 pub const UNCOVERED: u8 = 1;
 
+/// The certificate is not good.
+pub const NOT_GOOD: u8 = 1;
+
 /// The words call for no command.
 pub const BAD_WORDS: u8 = 2;
 
@@ -18,7 +21,7 @@ pub const READ_FAILED: u8 = 4;
 /// Writing failed.
 pub const WRITE_FAILED: u8 = 5;
 
-/// The input has more than `MAX_INPUT` bytes.
+/// The input has more bytes than the command's limit.
 pub const TOO_LARGE: u8 = 6;
 
 /// Memory ran out.

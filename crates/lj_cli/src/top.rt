@@ -1,21 +1,26 @@
 ghost use Rattle.lj_gen.specs.Generated.{gen_text};
+ghost use Rattle.lj_cli.specs.AuditOutput.{IsAuditOutput};
 ghost use Rattle.lj_cli.specs.BigOutput.{IsBigCommandOutput};
 ghost use Rattle.lj_cli.specs.BuildOutput.{IsBuildCommandOutput};
+ghost use Rattle.lj_cli.specs.CertifyOutput.{IsCertifyOutput};
 ghost use Rattle.lj_cli.specs.CheckOutput.{IsCheckOutput};
 ghost use Rattle.lj_cli.specs.CountOutput.{IsExcessOutput, IsGreedyOutput, IsReduceOutput};
-ghost use Rattle.lj_cli.specs.Ends.{Ends, EndsUnread, EndsWithOutput, EndsWithText, EndsWithUsage, input_of};
-ghost use Rattle.lj_cli.specs.Ends.{output_of};
+ghost use Rattle.lj_cli.specs.Ends.{Ends, EndsUnread, EndsWithOutput, EndsWithText, EndsWithUsage, EndsWithin};
+ghost use Rattle.lj_cli.specs.Ends.{input_of, output_of};
 ghost use Rattle.lj_cli.specs.GoodWords.{GoodWords, TakesNumbers, texts};
 ghost use Rattle.lj_cli.specs.Headline.{HasHeadline};
 ghost use Rattle.lj_cli.specs.Running.{EndsAs};
 ghost use Rattle.lj_cli.specs.ServeOutput.{IsServeCommandOutput};
 
+use crate::audit::audit_run;
 use crate::big::big_run;
 use crate::build::build_run;
+use crate::certify::certify_run;
 use crate::check::check_run;
 use crate::excess::excess_run;
 use crate::generate::gen_run;
 use crate::greedy::greedy_run;
+use crate::limits::MAX_CERT_INPUT;
 use crate::prints::print_usage;
 use crate::reduce::reduce_run;
 use crate::serve::serve_run;
@@ -80,6 +85,16 @@ pub fn ljcr<R: Threads + Wait + Sync, S: Source, K: Sink, G: Gate + Sync>(
         Ends (IsReduceOutput cell) (input_of S.left S.faults input.old input.new)
         (output_of K.written K.faults out.old out.new) result }
 
+    // Words that call for a certificate end with that of the script's accepted uploads, or with the script's fault.
+    ensures certified { GoodWords (texts words.now) Call.Certify →
+        Ends IsCertifyOutput (input_of S.left S.faults input.old input.new)
+        (output_of K.written K.faults out.old out.new) result }
+
+    // Words that call for an audit end with whether the input's certificate is good, whatever the number of workers.
+    ensures audited { (workers : _) → GoodWords (texts words.now) (Call.Audit workers) →
+        EndsWithin MAX_CERT_INPUT IsAuditOutput (input_of S.left S.faults input.old input.new)
+        (output_of K.written K.faults out.old out.new) result }
+
     // Words that call for no command end with the usage line.
     ensures usage { ((call : _) → GoodWords (texts words.now) call → ⊥) →
         EndsWithUsage (input_of S.left S.faults input.old input.new) (output_of K.written K.faults out.old out.new)
@@ -113,5 +128,7 @@ fn run_call<R: Threads + Wait + Sync, S: Source, K: Sink, G: Gate + Sync>(
         Call::Excess { cell } => excess_run(rt, alloc, cell, input, out),
         Call::Greedy { cell } => greedy_run(alloc, cell, out),
         Call::Reduce { cell } => reduce_run(rt, alloc, cell, input, out),
+        Call::Certify => certify_run(rt, alloc, input, out),
+        Call::Audit { workers } => audit_run(rt, alloc, workers, input, out),
     }
 }

@@ -9,7 +9,7 @@ fn good_words_call_for_their_command(rt: HostRuntime) -> Result<(), Fail> {
     let check = |workers: u64| Call::Check(CheckCall { cell, workers });
     let serve = |workers: u64, json: bool| Call::Serve(ServeCall { workers, json });
     let big = |m: u64, workers: u64| Call::Big(BigCall { m, workers });
-    let rows: [(&str, Call); 26] = [
+    let rows: [(&str, Call); 32] = [
         ("check 5 3 2", check(1)),
         ("check 05 003 2", check(1)),
         ("check 5 3 2 --workers 3", check(3)),
@@ -36,6 +36,12 @@ fn good_words_call_for_their_command(rt: HostRuntime) -> Result<(), Fail> {
         ("greedy 5 3 2", Call::Greedy { cell }),
         ("reduce 5 3 2", Call::Reduce { cell }),
         ("reduce 5 3 2 --", Call::Reduce { cell }),
+        ("certify", Call::Certify),
+        ("certify --", Call::Certify),
+        ("audit", Call::Audit { workers: 1 }),
+        ("audit --", Call::Audit { workers: 1 }),
+        ("audit --workers 64", Call::Audit { workers: 64 }),
+        ("audit --workers=02 --", Call::Audit { workers: 2 }),
     ];
     for (line, call) in rows {
         let words = words_of(rt.alloc(), line)?;
@@ -46,7 +52,7 @@ fn good_words_call_for_their_command(rt: HostRuntime) -> Result<(), Fail> {
 
 pub(crate) const USAGE: &[u8] =
     b"usage: ljcr check V K T [--workers N] | build [--json] | serve --workers N [--json] | gen M \
-    | big M --workers N | excess V K T | greedy V K T | reduce V K T\n";
+    | big M --workers N | excess V K T | greedy V K T | reduce V K T | certify | audit [--workers N]\n";
 
 #[test]
 fn other_words_end_with_the_usage_line(rt: HostRuntime) -> Result<(), Fail> {
@@ -96,6 +102,16 @@ fn other_words_end_with_the_usage_line(rt: HostRuntime) -> Result<(), Fail> {
         "greedy 3 5 2",
         "reduce",
         "reduce 5 3 x",
+        "certify 1",
+        "certify --json",
+        "certify --workers 1",
+        "audit 3 2 1",
+        "audit --workers",
+        "audit --workers 0",
+        "audit --workers 65",
+        "audit --workers 1 --workers 1",
+        "audit --json",
+        "audit -- --workers 1",
         "--json build",
         "-- build",
         "--help",

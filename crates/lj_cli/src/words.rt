@@ -1,6 +1,6 @@
 ghost use Rattle.std.specs.Prelude.{IfNone, IfSome};
-ghost use Rattle.lj_cli.specs.GoodWords.{GoodWords, IsBigCall, IsBuildCall, IsCall, IsCellCall, IsCheckCall, IsGenCall};
-ghost use Rattle.lj_cli.specs.GoodWords.{IsServeCall, texts};
+ghost use Rattle.lj_cli.specs.GoodWords.{GoodWords, IsAuditCall, IsBigCall, IsBuildCall, IsCall, IsCellCall};
+ghost use Rattle.lj_cli.specs.GoodWords.{IsCertifyCall, IsCheckCall, IsGenCall, IsServeCall, texts};
 
 use crate::given::{Given, read_given};
 use lj_base::Cell;
@@ -44,6 +44,10 @@ pub enum Call {
     Greedy { cell: Cell },
     /// Prints the blocks of the input without the spare ones.
     Reduce { cell: Cell },
+    /// Prints the certificate of the script of the input.
+    Certify,
+    /// Prints whether the certificate of the input is good; the work is shared out among a number of threads.
+    Audit { workers: u64 },
 }
 
 /// The command that the words after the program's name call for.
@@ -85,6 +89,12 @@ fn call_of(name: &str, given: &Given) -> Option<Call>
     } else if name == "reduce" {
         let cell = cell_call(given)?;
         Some(Call::Reduce { cell })
+    } else if name == "certify" {
+        certify_call(given)?;
+        Some(Call::Certify)
+    } else if name == "audit" {
+        let workers = audit_call(given)?;
+        Some(Call::Audit { workers })
     } else {
         None
     }
@@ -189,6 +199,37 @@ fn big_call(given: &Given) -> Option<BigCall>
         && !given.json()
     {
         Some(BigCall { m, workers })
+    } else {
+        None
+    }
+}
+
+// certify
+fn certify_call(given: &Given) -> Option<()>
+    ensures good { IfSome result (λ _. IsCertifyCall given.now) }
+    ensures bad { IfNone result (IsCertifyCall given.now → ⊥) }
+{
+    let [] = given.numbers() else {
+        return None;
+    };
+    if given.workers().is_none() && !given.json() {
+        Some(())
+    } else {
+        None
+    }
+}
+
+// audit [--workers N]: the number of workers.
+fn audit_call(given: &Given) -> Option<u64>
+    ensures good { IfSome result (IsAuditCall given.now) }
+    ensures bad { IfNone result ((workers : _) → IsAuditCall given.now workers → ⊥) }
+{
+    let [] = given.numbers() else {
+        return None;
+    };
+    let workers = given.workers().unwrap_or(1);
+    if 1 <= workers && workers <= MAX_WORKERS && !given.json() {
+        Some(workers)
     } else {
         None
     }

@@ -9,7 +9,8 @@ returns-clause-fault c = of_fault c.script_law.ensures.script c.script_law.ensur
 
 pub returns-clause-report : goal.returns-clause-report
 returns-clause-report c = λ script json bytes text other status ended is first second.
-    let outputs = of_script c.script_law.ensures.script c.script_law.ensures.fault c.script_law.ensures.either json bytes
+    let outputs = of_script c.script_law.ensures.script c.script_law.ensures.fault c.script_law.ensures.either json
+    bytes
     in
     one_report c.one_report_law.ensures.accepted c.one_outcome_law.ensures.sections c.one_report_law.ensures.text script
     json text other is.names_frame.in_limits (outputs text status script first is).1

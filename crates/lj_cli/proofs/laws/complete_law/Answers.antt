@@ -1,3 +1,4 @@
+use Rattle.lj_base.specs.declared.limits.TheConstants.{MAX_INPUT}
 use Rattle.lj_cli.specs.BuildOutput.{IsBuildCommandOutput}
 use Rattle.lj_cli.specs.CheckOutput.{IsCheckOutput}
 use Rattle.lj_cli.specs.CountOutput.{IsExcessOutput, IsGreedyOutput, IsReduceOutput}
@@ -5,16 +6,16 @@ use Rattle.lj_cli.proofs.Ending.{complete, unread, unread_output, usage}
 use Rattle.lj_cli.proofs.laws.complete_law.Goals as goal
 
 pub returns-clause-check : goal.returns-clause-check
-returns-clause-check c = λ cell. complete (IsCheckOutput cell)
+returns-clause-check c = λ cell. complete MAX_INPUT (IsCheckOutput cell)
 
 pub returns-clause-build : goal.returns-clause-build
-returns-clause-build c = λ json. complete (IsBuildCommandOutput json)
+returns-clause-build c = λ json. complete MAX_INPUT (IsBuildCommandOutput json)
 
 pub returns-clause-excess : goal.returns-clause-excess
-returns-clause-excess c = λ cell. complete (IsExcessOutput cell)
+returns-clause-excess c = λ cell. complete MAX_INPUT (IsExcessOutput cell)
 
 pub returns-clause-reduced : goal.returns-clause-reduced
-returns-clause-reduced c = λ cell. complete (IsReduceOutput cell)
+returns-clause-reduced c = λ cell. complete MAX_INPUT (IsReduceOutput cell)
 
 pub returns-clause-generated : goal.returns-clause-generated
 returns-clause-generated c = unread

@@ -1,3 +1,4 @@
+use Rattle.lj_base.specs.declared.limits.TheConstants.{MAX_INPUT}
 use Rattle.lj_cli.specs.CountOutput.{IsReduceOutput}
 use Rattle.lj_cli.specs.Ends.{input_of, output_of}
 use Rattle.lj_cli.proofs.Ending.{made_ends}
@@ -5,7 +6,7 @@ use Rattle.lj_cli.proofs.reduce.reduce_run.Goals as goal
 
 pub returns-in-Ok : goal.returns-in-Ok
 returns-in-Ok g c =
-    made_ends (IsReduceOutput c.args.cell)
+    made_ends MAX_INPUT (IsReduceOutput c.args.cell)
     (input_of g.S.Source.left g.S.Source.faults c.args.input.now c.read_all.new.source)
     (output_of g.K.Sink.written g.K.Sink.faults c.args.out.now c.print_made.new.out) c.in-Ok.bytes.items
     c.deref.result.now c.print_made.result c.reduce_output.result c.deref.ensures.value c.reduce_output.ensures

@@ -1,6 +1,7 @@
 use Rattle.std.proofs.Common.{◌≡◌, rules}
 use Rattle.lj_cli.specs.GoodWords.{texts}
 use Rattle.lj_cli.specs.declared.words.Call.TheVariants.{Check, Build, Serve, Gen, Big, Excess, Greedy, Reduce}
+use Rattle.lj_cli.specs.declared.words.Call.TheVariants.{Certify, Audit}
 use Rattle.lj_cli.proofs.Calls.{one_call, takes_numbers}
 use Rattle.lj_cli.proofs.top.ljcr.Goals as goal
 
@@ -60,4 +61,16 @@ pub returns-in-Some-clause-reduced : goal.returns-in-Some-clause-reduced
 returns-in-Some-clause-reduced g c cell good =
     let same : c.in-Some.call ≡ Reduce cell = one_call
     (texts c.args.words.now) c.in-Some.call (Reduce cell) c.in-Some.ensures.good good in
+    rw same at c.run_call.ensures
+
+pub returns-in-Some-clause-certified : goal.returns-in-Some-clause-certified
+returns-in-Some-clause-certified g c good =
+    let same : c.in-Some.call ≡ Certify = one_call
+    (texts c.args.words.now) c.in-Some.call Certify c.in-Some.ensures.good good in
+    rw same at c.run_call.ensures
+
+pub returns-in-Some-clause-audited : goal.returns-in-Some-clause-audited
+returns-in-Some-clause-audited g c workers good =
+    let same : c.in-Some.call ≡ Audit workers = one_call
+    (texts c.args.words.now) c.in-Some.call (Audit workers) c.in-Some.ensures.good good in
     rw same at c.run_call.ensures

@@ -55,3 +55,14 @@ returns-in-Greedy g c =
 
 pub returns-in-Reduce : goal.returns-in-Reduce
 returns-in-Reduce g c = rw c.in-Reduce.is c.reduce_run.ensures
+
+pub audit_run-requires : goal.audit_run-requires
+audit_run-requires g c =
+    let takes = rw c.in-Audit.is at c.requires in
+    (search rules, (takes.0, takes.1))
+
+pub returns-in-Certify : goal.returns-in-Certify
+returns-in-Certify g c = rw c.in-Certify.is c.certify_run.ensures
+
+pub returns-in-Audit : goal.returns-in-Audit
+returns-in-Audit g c = rw c.in-Audit.is c.audit_run.ensures
