@@ -1,6 +1,7 @@
 #!/bin/sh
-# Changes each token of a certificate in turn, a number to the next one and another word to `x`, runs `ljcr audit` on
-# what comes of it, and prints how many of these are good all the same, how many are refused, and how many have a fault.
+# Changes each token of a certificate in turn, a number to the next one and another word to one with `x` after it, runs
+# `ljcr audit` on what comes of it, and prints how many of these are good all the same, how many are refused, and how
+# many have a fault.
 # usage: changed_tokens.sh LJCR CERTIFICATE
 set -eu
 ljcr=$1
@@ -14,7 +15,7 @@ while [ "$n" -le "$tokens" ]; do
     awk -v change="$n" '{
         for (i = 1; i <= NF; i++) {
             seen++
-            if (seen == change) $i = ($i ~ /^[0-9]+$/ ? $i + 1 : "x")
+            if (seen == change) $i = ($i ~ /^[0-9]+$/ ? $i + 1 : $i "x")
         }
         print
     }' "$certificate" > "$work/changed"
