@@ -48,6 +48,16 @@ done
 "$ljcr" gen 5 > "$work/script"
 compare gen_5
 
+# 4,096 uploads of one block, which need no threads of their own
+awk 'BEGIN {
+    print "frame 3 3 1"
+    for (c = 1; c <= 16; c++) {
+        print "client c" c
+        for (u = 1; u <= 256; u++) print "upload 3 3 1\n1 2 3\nend"
+    }
+}' > "$work/script"
+compare 4096_uploads
+
 # seventeen uploads of 100,000 blocks at (99,25,2), and a last line that is none of a certificate's
 awk 'BEGIN {
     print "cert 99 25 2"

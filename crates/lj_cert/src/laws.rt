@@ -9,17 +9,19 @@ ghost use Rattle.lj_cert.specs.Values.{AreDistinct, CertValue, IsFormed};
 ghost use Rattle.lj_cert.specs.declared.faults.CertFault.{CertFault};
 ghost use Rattle.lj_cert.specs.declared.refusals.No.{No};
 
+use crate::limits::MAX_CERT_UPLOADS;
 use lj_base::{cells_law, index_law};
 use lj_blockfile::one_reading_law;
 use lj_relax::laws::rest_is_least;
 use lj_verify::outcome_law;
 
-/// Bytes spell at most one certificate, or else have at most one fault.
+/// Bytes spell at most one certificate, or else have at most one fault. A certificate has at most 4,096 uploads.
 pub fn cert_law()
     ensures cert { (bytes : List ℕ) (a b : CertValue) → IsCert bytes a → IsCert bytes b → a ≡ b }
     ensures fault { (bytes : List ℕ) (f g : CertFault) → IsCertFault bytes f → IsCertFault bytes g → f ≡ g }
     ensures either { (bytes : List ℕ) (cert : CertValue) (fault : CertFault)
         → IsCert bytes cert → IsCertFault bytes fault → ⊥ }
+    ensures limit { MAX_CERT_UPLOADS ≡ 4096 }
 {
     one_reading_law();
 }

@@ -19,18 +19,21 @@ impl Model for CertBlocks {
 }
 
 impl CertBlocks {
+    /// These blocks, in their order.
     pub fn of(items: Vec<Block>) -> CertBlocks
         ensures { result ≡ items.items }
     {
         CertBlocks { blocks: items }
     }
 
+    /// The blocks in order.
     pub fn items(&self) -> &[Block]
         ensures { result.now ≡ self.now }
     {
         &self.blocks
     }
 
+    /// The list of the blocks, which is used up.
     pub fn into_vec(self) -> Vec<Block>
         ensures { result.items ≡ self }
     {
@@ -63,18 +66,21 @@ impl Model for CertParts {
 }
 
 impl CertParts {
+    /// These parts, in their order.
     pub fn of(items: Vec<CertPart>) -> CertParts
         ensures { result ≡ items.items }
     {
         CertParts { parts: items }
     }
 
+    /// The parts in order.
     pub fn items(&self) -> &[CertPart]
         ensures { result.now ≡ self.now }
     {
         &self.parts
     }
 
+    /// The list of the parts, which is used up.
     pub fn into_vec(self) -> Vec<CertPart>
         ensures { result.items ≡ self }
     {
@@ -99,18 +105,21 @@ impl Model for CertChildren {
 }
 
 impl CertChildren {
+    /// These children, in their order.
     pub fn of(items: Vec<CertChild>) -> CertChildren
         ensures { result ≡ items.items }
     {
         CertChildren { children: items }
     }
 
+    /// The children in order.
     pub fn items(&self) -> &[CertChild]
         ensures { result.now ≡ self.now }
     {
         &self.children
     }
 
+    /// The list of the children, which is used up.
     pub fn into_vec(self) -> Vec<CertChild>
         ensures { result.items ≡ self }
     {
@@ -135,18 +144,21 @@ impl Model for CertUploads {
 }
 
 impl CertUploads {
+    /// These uploads, in their order.
     pub fn of(items: Vec<CertUpload>) -> CertUploads
         ensures { result ≡ items.items }
     {
         CertUploads { uploads: items }
     }
 
+    /// The uploads in order.
     pub fn items(&self) -> &[CertUpload]
         ensures { result.now ≡ self.now }
     {
         &self.uploads
     }
 
+    /// The list of the uploads, which is used up.
     pub fn into_vec(self) -> Vec<CertUpload>
         ensures { result.items ≡ self }
     {
@@ -171,18 +183,21 @@ impl Model for CertNodes {
 }
 
 impl CertNodes {
+    /// These nodes, in their order.
     pub fn of(items: Vec<CertNode>) -> CertNodes
         ensures { result ≡ items.items }
     {
         CertNodes { nodes: items }
     }
 
+    /// The nodes in order.
     pub fn items(&self) -> &[CertNode]
         ensures { result.now ≡ self.now }
     {
         &self.nodes
     }
 
+    /// The list of the nodes, which is used up.
     pub fn into_vec(self) -> Vec<CertNode>
         ensures { result.items ≡ self }
     {
@@ -207,18 +222,21 @@ impl Model for CertBounds {
 }
 
 impl CertBounds {
+    /// These bounds, in their order.
     pub fn of(items: Vec<CertBound>) -> CertBounds
         ensures { result ≡ items.items }
     {
         CertBounds { bounds: items }
     }
 
+    /// The bounds in order.
     pub fn items(&self) -> &[CertBound]
         ensures { result.now ≡ self.now }
     {
         &self.bounds
     }
 
+    /// The list of the bounds, which is used up.
     pub fn into_vec(self) -> Vec<CertBound>
         ensures { result.items ≡ self }
     {

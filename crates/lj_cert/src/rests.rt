@@ -8,8 +8,7 @@ use lj_base::{Cell, Frame};
 use lj_deriv::Arena;
 use std::marker::Model;
 
-/// A frame, uploads that cover, and for each cell of the frame the least cost of any derivation in the frame from these
-/// uploads.
+/// A frame, uploads, and for each cell of the frame the least cost of any derivation in the frame from these uploads.
 #[derive(Drop)]
 pub struct Rest {
     arena: Arena,

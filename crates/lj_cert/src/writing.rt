@@ -16,7 +16,7 @@ use lj_text::{fields_law, put, put_joined, put_named, put_number_fields};
 use lj_upload::Accepted;
 
 /// Appends a certificate: the frame, the uploads, the forest's nodes, and for each cell of the frame its bound and its
-/// root. It reads back as these. Where memory ran out a part of it may have been appended. It takes time for each byte.
+/// root. It reads back as these. Where memory ran out something may have been appended. It takes time for each byte.
 pub fn write_cert(
     frame: Frame,
     uploads: &[Accepted],

@@ -53,10 +53,11 @@ pub fn certify_output_law()
 }
 
 /// Where no read and no write fails, a certificate and an audit of an input that its source reports print an output
-/// that belongs to the input, or refuse it as too large; or memory runs out.
+/// that belongs to the input, or refuse it as too large; or memory runs out. An audit reads at most 2^27 bytes.
 pub fn cert_complete_law()
     ensures certified { (i : _) (o : _) (ended : _) → Ends IsCertifyOutput i o ended →
         IsComplete IsCertifyOutput i o ended }
     ensures audited { (i : _) (o : _) (ended : _) → EndsWithin MAX_CERT_INPUT IsAuditOutput i o ended →
         IsCompleteWithin MAX_CERT_INPUT IsAuditOutput i o ended }
+    ensures limit { MAX_CERT_INPUT ≡ 134217728 }
 {}
