@@ -27,17 +27,34 @@ row() {
     }'
 }
 
-echo 'script                       hand: best   median   MB  ljcr: best  median  MB  ratio of the best'
-for frame in '32 6 4' '64 8 4' '99 12 4' '99 25 8'; do
+# repeat SIDE TIMES COMMAND..: measures so many runs of the command on the script together, and keeps the last output
+repeat() {
+    side=$1
+    times=$2
+    shift 2
+    # shellcheck disable=SC2016
+    measure "$side" /dev/null sh -c 'script=$1; last=$2; times=$3; shift 3
+        while [ "$times" -gt 0 ]; do "$@" < "$script" > "$last"; times=$((times - 1)); done' \
+        sh "$work/script" "$work/last_$side" "$times" "$@"
+}
+
+# beside FRAME TIMES: so many runs of both programs on the frame
+beside() {
     rm -f "$work"/times_*
-    echo "frame $frame" > "$work/script"
+    echo "frame $1" > "$work/script"
     for run in 1 2 3 4 5 6 7 8 9 10; do
-        measure hand "$work/script" "$work/building"
-        measure ljcr "$work/script" "$ljcr" build
+        repeat hand "$2" "$work/building"
+        repeat ljcr "$2" "$ljcr" build
     done
-    cmp "$work/output_hand" "$work/output_ljcr"
-    row "frame_$(echo "$frame" | tr ' ' '_')" hand ljcr
-done
+    cmp "$work/last_hand" "$work/last_ljcr"
+    row "$(echo "$2 times frame $1" | tr ' ' '_')" hand ljcr
+}
+
+echo 'script                       hand: best   median   MB  ljcr: best  median  MB  ratio of the best'
+beside '32 6 4' 100
+beside '64 8 4' 20
+beside '99 12 4' 5
+beside '99 25 8' 1
 
 # alone NAME: the built program on the script
 alone() {
