@@ -94,23 +94,30 @@ fn least_starting_at(
     least
 }
 
-/// The tails, from the greatest number of points that a set can have on the first side down to the least.
+/// Fills the array with the tails, from the greatest number of points that a set can have on the first side down to the
+/// least. The array is lent, not returned: a copy of what has just been written number by number would hold up the
+/// processor.
 #[inline(always)]
-pub fn least_tails(frame: Frame, bounds: &[u64], offsets: &[usize; 27], s: Sides) -> [u64; 10]
+pub fn fill_tails(
+    frame: Frame,
+    bounds: &[u64],
+    offsets: &[usize; 27],
+    s: Sides,
+    tails: &mut [u64; 10],
+)
     requires numbers { HasPrices frame bounds.now s }
     requires offsets { AreOffsets frame offsets.now }
     requires sides { AreSides frame s }
-    ensures tails { AreTails (at_cell frame bounds.now) (cell_of s) s.v1 (s.t - (s.v - s.v1)) result }
-    ensures small { AreSmall result }
+    ensures tails { AreTails (at_cell frame bounds.now) (cell_of s) s.v1 (s.t - (s.v - s.v1)) tails.new }
+    ensures small { AreSmall tails.new }
 {
     let lo = s.t.saturating_sub(s.v - s.v1);
     let hi = s.t.min(s.v1);
-    let mut tails = [0; 10];
+    *tails = [0; 10];
     for i in 0..hi + 1 - lo {
         let a = hi - i;
-        tails[a] = least_starting_at(frame, bounds, offsets, s, a, &tails);
+        tails[a] = least_starting_at(frame, bounds, offsets, s, a, tails);
     }
-    tails
 }
 
 // The first number, from low to high, of points on the first side with which a part from a to b has, together with the

@@ -8,7 +8,7 @@ ghost use Rattle.lj_product.specs.Products.{IsLeastProduct, IsLeastProductPrice,
 ghost use Rattle.lj_product.specs.Sides.{AreOffsets, AreSides, cell_of};
 
 use crate::choices::{PartChoice, ProductChoice};
-use crate::parts::{least_tails, part_at_price};
+use crate::parts::{fill_tails, part_at_price};
 use crate::sides::Sides;
 use lj_base::{Cell, Frame, choose_law, choose_product_law, index_law};
 
@@ -133,7 +133,8 @@ fn least_with(frame: Frame, bounds: &[u64], offsets: &[usize; 27], s: Sides) -> 
     index_law();
     choose_law();
     choose_product_law();
-    let tails = least_tails(frame, bounds, offsets, s);
+    let mut tails = [0; 10];
+    fill_tails(frame, bounds, offsets, s, &mut tails);
     tails[s.t.saturating_sub(s.v - s.v1)]
 }
 
@@ -150,7 +151,8 @@ fn choice_with(frame: Frame, bounds: &[u64], offsets: &[usize; 27], s: Sides) ->
     index_law();
     choose_law();
     choose_product_law();
-    let tails = least_tails(frame, bounds, offsets, s);
+    let mut tails = [0; 10];
+    fill_tails(frame, bounds, offsets, s, &mut tails);
     let lo = s.t.saturating_sub(s.v - s.v1);
     let hi = s.t.min(s.v1);
     let mut parts = [PartChoice { a: 0, b: 0, l: 0 }; 9];

@@ -9,8 +9,8 @@ use Rattle.lj_product.proofs.Choosing.{chosen_push}
 use Rattle.lj_product.proofs.Places.{has_prices}
 use Rattle.lj_product.proofs.products.choice_with.Goals as goal
 
-pub least_tails-tails-requires-clause-numbers : goal.least_tails-tails-requires-clause-numbers
-least_tails-tails-requires-clause-numbers c =
+pub fill_tails-requires-clause-numbers : goal.fill_tails-requires-clause-numbers
+fill_tails-requires-clause-numbers c =
     has_prices c.choose_product_law.ensures.most c.choose_product_law.ensures.small c.choose_law.ensures.small
     c.args.frame c.args.bounds.now c.args.s c.requires.bounds c.requires.sides
     (c.index_law.ensures.below c.args.frame) c.index_law.ensures.size
@@ -41,10 +41,10 @@ loop-a-preserved c =
     let to = i.to in
     let inside : c.loop-a.count < length c.loop-a.parts = omega arith in
     let more =
-    up_to_more bounds (cell_of c.args.s) c.args.s.v1 c.least_tails-tails.result c.loop-a.a p
+    up_to_more bounds (cell_of c.args.s) c.args.s.v1 c.fill_tails.new.tails c.loop-a.a p
     (chosen_parts c.loop-a.parts c.loop-a.count) inv.up_to i e c.part_at_price-part.ensures.price in
     record {
-      up_to = subst (IsUpTo bounds (cell_of c.args.s) c.args.s.v1 c.least_tails-tails.result (x.b + 1))
+      up_to = subst (IsUpTo bounds (cell_of c.args.s) c.args.s.v1 c.fill_tails.new.tails (x.b + 1))
           (sym (chosen_push c.loop-a.parts c.loop-a.count x inside)) more;
       few = omega arith;
       from = omega arith;
@@ -65,9 +65,9 @@ returns-clause-chosen c =
     let test = c.loop-a-test.false in
     let s = c.requires.sides in
     let small = s.inside.cell.5 in
-    let r = up_to_end bounds d v1 c.least_tails-tails.result c.loop-a.a (chosen_parts c.loop-a.parts c.loop-a.count)
-    s.first_side s.second_side c.least_tails-tails.ensures.tails (omega arith) inv.up_to in
-    let e = ap (λ n. get_or c.least_tails-tails.result n 0) lo in
+    let r = up_to_end bounds d v1 c.fill_tails.new.tails c.loop-a.a (chosen_parts c.loop-a.parts c.loop-a.count)
+    s.first_side s.second_side c.fill_tails.ensures.tails (omega arith) inv.up_to in
+    let e = ap (λ n. get_or c.fill_tails.new.tails n 0) lo in
     record {
       count = omega arith;
       instance = record {
@@ -87,8 +87,8 @@ returns-clause-least c = λ parts h.
     let bounds = at_cell c.args.frame c.args.bounds.now in
     let d = cell_of c.args.s in
     let low =
-    tail_below bounds d c.args.s.v1 (d.t - (d.v - c.args.s.v1)) c.least_tails-tails.result
-    c.least_tails-tails.ensures.tails (omega arith) parts h.chain h.fits in
+    tail_below bounds d c.args.s.v1 (d.t - (d.v - c.args.s.v1)) c.fill_tails.new.tails
+    c.fill_tails.ensures.tails (omega arith) parts h.chain h.fits in
     let is = price_is bounds d c.args.s.v1 parts in
-    let e = ap (λ n. get_or c.least_tails-tails.result n 0) c.saturating_sub-lo.ensures in
+    let e = ap (λ n. get_or c.fill_tails.new.tails n 0) c.saturating_sub-lo.ensures in
     omega (arith, low, is, e)

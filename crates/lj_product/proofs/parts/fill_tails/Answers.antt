@@ -3,7 +3,7 @@ use Rattle.std.proofs.lemmas.List.{length-set}
 use Rattle.lj_base.specs.Bounds.{at_cell}
 use Rattle.lj_product.specs.Sides.{cell_of}
 use Rattle.lj_product.proofs.Tails.{tails_next, small_more}
-use Rattle.lj_product.proofs.parts.least_tails.Goals as goal
+use Rattle.lj_product.proofs.parts.fill_tails.Goals as goal
 
 pub loop-i-preserved : goal.loop-i-preserved
 loop-i-preserved c =

@@ -2,7 +2,7 @@ use Rattle.std.proofs.Common.{◌≡◌, ◌+◌, ◌-◌, length}
 use Rattle.lj_base.specs.Bounds.{at_cell}
 use Rattle.lj_product.specs.Parts.{AreTails}
 use Rattle.lj_product.specs.Sides.{AreSmall, cell_of}
-use Rattle.lj_product.proofs.parts.least_tails.Given as goal
+use Rattle.lj_product.proofs.parts.fill_tails.Given as goal
 
 abbrev pub invariant-loop-i : goal.invariant-loop-i
 invariant-loop-i l = record {
