@@ -1,5 +1,8 @@
 -- How many cells a frame has up to a cell.
-use Rattle.std.proofs.Common.{◌≡◌, ℕ, zero, suc, ◌+◌, ◌-◌, ◌*◌, ◌/◌, ◌<◌, ◌≤◌, min, refl, sym, ap, ◌∙◌, arith}
+use Rattle.std.proofs.Common.{◌≡◌, ℕ, zero, suc, ◌+◌, ◌-◌, ◌*◌, ◌/◌, ◌%◌, ◌<◌, ◌≤◌, min, refl, sym, ap, ◌∙◌, arith}
+use Rattle.std.proofs.Common.{⊎_elim}
+use Rattle.std.proofs.lemmas.Bool.{cases_lt}
+use Rattle.std.proofs.lemmas.Nat.{div-add-mod'}
 use Rattle.lj_base.specs.Frames.{before_k, up_to_v}
 
 -- 1 + 2 + .. + n
@@ -129,3 +132,24 @@ pub up_to_above : (k t v : ℕ) → k < v → up_to_v k t k + (v - k) * before_k
 up_to_above k t v h =
     let e : k + (v - k) ≡ v = omega arith in
     sym (up_to_past k t (v - k)) ∙ ap (up_to_v k t) e
+
+-- the cells of a v above the greatest k: where the v and the place among them are a quotient and a remainder
+module _ (k t i low n : ℕ) (low_is : low ≡ up_to_v k t k) (n_is : n ≡ before_k t (k + 1)) (past : low ≤ i) where
+  up_to_here : up_to_v k t (k + (i - low) / n) ≡ low + (i - low) / n * n
+  up_to_here =
+      up_to_past k t ((i - low) / n) ∙ ap (λ m. m + (i - low) / n * before_k t (k + 1)) (sym low_is)
+      ∙ ap (λ m. low + (i - low) / n * m) (sym n_is)
+
+  pub layer_is : up_to_v k t (k + 1 + (i - low) / n - 1) + (i - low) % n ≡ i
+  layer_is =
+      let q : ℕ = (i - low) / n in
+      let e : k + 1 + q - 1 ≡ k + q = omega arith in
+      ap (λ m. up_to_v k t m + (i - low) % n) e ∙ omega (arith, up_to_here, div-add-mod' (i - low) n, past)
+
+  pub layer_below : (v : ℕ) → ((w : ℕ) → v ≤ w → up_to_v k t v ≤ up_to_v k t w) → i < up_to_v k t v
+      → k + 1 + (i - low) / n ≤ v
+  layer_below v up high =
+      ⊎_elim (λ (less : k + (i - low) / n < v). omega (arith, less))
+      (λ (above : v ≤ k + (i - low) / n). absurd
+      (omega (arith, up (k + (i - low) / n) above, up_to_here, div-add-mod' (i - low) n, past, high)))
+      (cases_lt (k + (i - low) / n) v)

@@ -149,7 +149,7 @@ size_small f top =
     let layers = up_to_le f.top.k f.top.t f.top.v (omega (arith, top)) (omega (arith, top)) in
     omega (arith, layers, top)
 
-up_to_up : (k t v w : ℕ) → v ≤ w → up_to_v k t v ≤ up_to_v k t w
+pub up_to_up : (k t v w : ℕ) → v ≤ w → up_to_v k t v ≤ up_to_v k t w
 up_to_up k t v zero h = let e : v ≡ zero = omega arith in omega (arith, ap (up_to_v k t) e)
 up_to_up k t v (suc w) h =
     ⊎_elim

@@ -115,7 +115,8 @@ impl Frame {
     }
 }
 
-// The v of the cell at a place, and the cell's place among those with that v.
+// The v of the cell at a place, and the cell's place among those with that v. Above the greatest k each v has as many
+// cells.
 fn layer_at(top: Cell, i: u64) -> (u8, u64)
     requires { i < up_to_v top.k top.t top.v }
     ensures low { 1 ≤ result.0 }
@@ -123,9 +124,26 @@ fn layer_at(top: Cell, i: u64) -> (u8, u64)
     ensures before { up_to_v top.k top.t (result.0 - 1) + result.1 ≡ i }
     ensures inside { result.1 < before_k top.t (min result.0 top.k + 1) }
 {
+    let low = layers(top.t as u64, top.k as u64);
+    if i < low {
+        return low_layer_at(top, i);
+    }
+    let layer = before(top.t as u64, top.k as u64 + 1) as u32;
+    let above = (i - low) as u32;
+    (top.k + 1 + (above / layer) as u8, (above % layer) as u64)
+}
+
+// The v of a cell at a place, and its place among those with that v, where v is at most the greatest k.
+fn low_layer_at(top: Cell, i: u64) -> (u8, u64)
+    requires { i < up_to_v top.k top.t top.k }
+    ensures low { 1 ≤ result.0 }
+    ensures high { result.0 ≤ top.k }
+    ensures before { up_to_v top.k top.t (result.0 - 1) + result.1 ≡ i }
+    ensures inside { result.1 < before_k top.t (min result.0 top.k + 1) }
+{
     let mut rest = i;
-    for v in 1..top.v + 1 {
-        let layer = before(top.t as u64, v.min(top.k) as u64 + 1);
+    for v in 1..top.k + 1 {
+        let layer = before(top.t as u64, v as u64 + 1);
         if rest < layer {
             return (v, rest);
         }
