@@ -49,6 +49,7 @@ pub fn best_product_below(
     requires inside { InFrame frame cell }
     requires bounds { AreBounds frame bounds.now }
     ensures least { IfSome result (IsLeastProduct frame (at_cell frame bounds.now) cell) }
+    ensures below { IfSome result (λ choice. choice.cost < limit) }
     ensures none { result ≡ None → (v1 : ℕ) (parts : List Part) → IsInstance frame [] cell (Product cell v1 parts)
         → limit ≤ price (at_cell frame bounds.now) (Product cell v1 parts) }
 {

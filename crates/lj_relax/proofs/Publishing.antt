@@ -321,6 +321,17 @@ module _ (positive : (c : Triple) (n : ℕ) → Derivable c n → 1 ≤ n)
           (λ h. same_price r h)
           (child_cases (rule_children r) i.children_inside)
 
+  -- a closed cell whose bound is at most the published one
+  pub still_least : (c : Triple) (r : Rule) → InFrame s.frame c → s.pending c ≡ false → n.bounds c ≤ n.bounds a.cell
+      → IsInstance s.frame s.uploads c r → n.bounds c ≤ price n.bounds r
+  still_least c r inside was low i =
+      ⊎_elim
+      (λ m. le_trans low (at_child (λ d. n.bounds d ≤ price n.bounds r) (rule_children r) a.cell
+      (at_least n.bounds r i.condition (all_positive r i.children_inside)) m))
+      (λ h. subst (λ z. n.bounds c ≤ z) (sym (same_price r h))
+      (le_trans (lower_now c inside) (good.closed c r inside was i)))
+      (child_cases (rule_children r) i.children_inside)
+
   why_closed : (b : Bool) → agreed ≡ b → cond b false (s.pending a.cell) ≡ false
       → (agreed ≡ true) ⊎ (s.pending a.cell ≡ false)
   why_closed true e h = inl e

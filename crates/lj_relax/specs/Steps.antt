@@ -45,6 +45,10 @@ IsPrice frame a n = ((r : Rule) × IsInstance frame [] a.cell r × (price a.boun
 abbrev pub IsAtMost : Option ℕ → ℕ → Type 0
 IsAtMost best n = MatchOption best ⊥ (λ m. m ≤ n)
 
+-- the number is there and below the limit
+abbrev pub IsBelow : Option ℕ → ℕ → Type 0
+IsBelow best limit = MatchOption best ⊥ (λ m. m < limit)
+
 -- the least price over the snapshot; there is none where it has no price
 pub record IsLeastPrice (frame : Top) (a : Snapshot) (best : Option ℕ) : Type 0 where
   pub is_price : IfSome best (IsPrice frame a)

@@ -4,7 +4,8 @@ ghost use Rattle.std.specs.Prelude.{◌≡◌, ℕ, ◌≤◌, Bool, false, Opti
 ghost use Rattle.lj_base.specs.Cells.{Triple};
 ghost use Rattle.lj_base.specs.Frames.{InFrame, Top};
 ghost use Rattle.lj_cover.specs.Derivations.{IsLeast};
-ghost use Rattle.lj_cover.specs.Rules.{IsCovering, Upload};
+ghost use Rattle.lj_cover.specs.Instances.{IsInstance, price};
+ghost use Rattle.lj_cover.specs.Rules.{IsCovering, Rule, Upload};
 ghost use Rattle.lj_relax.specs.States.{Good, State};
 ghost use Rattle.lj_relax.specs.Steps.{Accepts, Agrees, Claims, IsLeastPrice, IsOld, IsRead, Publishes, Snapshot};
 ghost use Rattle.lj_relax.specs.Steps.{SameOnFrame};
@@ -45,6 +46,25 @@ pub fn accept_keeps_good()
 pub fn publish_keeps_good()
     ensures { (s n : State) (a : Snapshot) (best : Option ℕ) (lowered agreed : Bool) → Good s → IsOld s a
         → IsLeastPrice s.frame a best → Publishes s a best lowered agreed n → Good n }
+{
+    costs_are_positive();
+    derivations_stay_inside();
+    induced_has_instances();
+    more_uploads_derive();
+    price_by_row();
+    price_grows();
+    prices_are_derivable();
+    reads_are_children();
+    rows_are_of_uploads();
+}
+
+/// Where a publication has lowered a bound, nothing is cheaper at a closed cell whose bound is at most the lowered one: an
+/// instance that has a cell as a child costs at least the cell's bound.
+pub fn cheap_cells_stay_least()
+    ensures { (s n : State) (a : Snapshot) (best : Option ℕ) (lowered agreed : Bool) → Good s → IsOld s a
+        → IsLeastPrice s.frame a best → Publishes s a best lowered agreed n → (c : Triple) (r : Rule)
+        → InFrame s.frame c → s.pending c ≡ false → n.bounds c ≤ n.bounds a.cell
+        → IsInstance s.frame s.uploads c r → n.bounds c ≤ price n.bounds r }
 {
     costs_are_positive();
     derivations_stay_inside();

@@ -6,7 +6,7 @@ ghost use Rattle.lj_cover.specs.Instances.{IsInstance, price, row_price};
 ghost use Rattle.lj_cover.specs.Rules.{Part, Rule, Product};
 ghost use Rattle.lj_induced.specs.Rows.{IsRowAt};
 ghost use Rattle.lj_relax.specs.Found.{IsFound, IsLeastFound, found_cost};
-ghost use Rattle.lj_relax.specs.Steps.{IsAtMost, IsLeastPrice, IsPrice};
+ghost use Rattle.lj_relax.specs.Steps.{IsAtMost, IsBelow, IsLeastPrice, IsPrice};
 ghost use Rattle.lj_relax.specs.Tickets.{snapshot};
 ghost use Rattle.lj_rules.specs.Elementary.{IsElementary};
 
@@ -79,6 +79,7 @@ pub fn instance_below(
     requires bounds { AreBounds frame bounds.now }
     requires rows { All (IsRowAt frame cell) rows.now }
     ensures least { IfSome result (IsLeastFound frame (snapshot frame cell bounds.now rows.now)) }
+    ensures below { IfSome result (λ found. IsBelow (found_cost found) limit) }
     ensures none { result ≡ None → (n : ℕ) → IsPrice frame (snapshot frame cell bounds.now rows.now) n → limit ≤ n }
 {
     let elementary = least_elementary(frame, bounds, cell);
@@ -94,6 +95,7 @@ pub fn instance_below(
 
 // Whether what was found costs less than the limit.
 fn is_below(found: &Found, limit: u64) -> bool
+    ensures below { IsTrue result → IsBelow (found_cost found.now) limit }
     ensures yes { IsTrue result → (n : ℕ) → limit ≤ n → IsAtMost (found_cost found.now) n }
     ensures no { result ≡ false → (n : ℕ) → IsAtMost (found_cost found.now) n → limit ≤ n }
 {

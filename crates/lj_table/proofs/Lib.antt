@@ -3,6 +3,7 @@ pub mod ByCell
 pub mod Distances
 pub mod FirstNodes
 pub mod FirstTables
+pub mod Keeping
 pub mod Offering
 pub mod Openings
 pub mod PartPlaces

@@ -1,6 +1,6 @@
 -- The parts of a publication, put together.
 use Rattle.std.proofs.Common.{◌≡◌, ◌≢◌, ◌↔◌, ℕ, ◌+◌, ◌<◌, ◌≤◌, Bool, true, false, not, cond, ◌||◌, ◌&&◌, List, []}
-use Rattle.std.proofs.Common.{◌∷◌, ◌++◌, length, get_or, Option, Some, None, refl, sym, ap, ◌∙◌, subst, arith, inl, inr}
+use Rattle.std.proofs.Common.{◌∷◌, ◌++◌, length, get_or, Option, Some, None, refl, sym, ap, ◌∙◌, subst, subst₂, arith, inl, inr}
 use Rattle.std.proofs.Common.{⊎_elim}
 use Rattle.std.proofs.Math.ListN.{set}
 use Rattle.std.proofs.lemmas.Bool.{cases_Bool, cases_eq}
@@ -14,8 +14,8 @@ use Rattle.lj_base.specs.Cells.{Triple}
 use Rattle.lj_base.specs.Frames.{InFrame, index_of, size_of}
 use Rattle.lj_base.specs.declared.Row.{Row}
 use Rattle.lj_cover.specs.Derivations.{DerivableIn, root_cell, tree_cost}
-use Rattle.lj_cover.specs.Instances.{IsRowOf, Reads, rows_at}
-use Rattle.lj_cover.specs.Rules.{Upload}
+use Rattle.lj_cover.specs.Instances.{IsInstance, IsRowOf, Reads, price, rows_at}
+use Rattle.lj_cover.specs.Rules.{Rule as Use, Upload}
 use Rattle.lj_deriv.specs.Nodes.{IsDerivedIn, Nodes, node_tree, rule_tree}
 use Rattle.lj_deriv.specs.declared.rules.Rule.{Rule}
 use Rattle.lj_relax.specs.Found.{Evaluation, found_cost}
@@ -25,10 +25,10 @@ use Rattle.lj_relax.specs.Tickets.{TicketLists, snapshot_of}
 use Rattle.lj_table.specs.Lowering.{AgreesWith, IsGivenBack, IsLowered, IsStored}
 use Rattle.lj_table.specs.Opening.{AreOpened, IsOpened}
 use Rattle.lj_table.specs.RulesOver.{IsRuleFor}
-use Rattle.lj_table.specs.Settling.{IsLater, IsTurn}
+use Rattle.lj_table.specs.Settling.{IsFallenAt, IsLater, IsTurn, NoneCheaper}
 use Rattle.lj_table.specs.Tables.{AreLists, AreNodes, Contents, Fits, HasGrown, IsIndexed, IsNodeOf, IsTable}
 use Rattle.lj_table.specs.Tables.{is_taken, mark_at, state_of}
-use Rattle.lj_table.proofs.ByCell.{apart, at_cell-other, at_cell-same, at_false, at_true, cell_cases, not_iff}
+use Rattle.lj_table.proofs.ByCell.{apart, at_cell-other, at_cell-same, at_false, cell_cases, not_iff}
 use Rattle.lj_table.proofs.ByCell.{same_bool}
 use Rattle.lj_table.proofs.Distances.{no_higher}
 use Rattle.lj_table.proofs.Openings.{none_opened, still_busy, still_taken}
@@ -172,6 +172,20 @@ lowered_by t e cost m closed2 busy2 inside lists is low s o =
         λ w. (o.opened d at).1 (⊎_elim (λ k. inl k) (λ r. inr (other, r.1)) w),
       );
       marks = o.marks;
+    }
+
+-- where a publication has lowered the bound, it has fallen
+pub fallen_at : (t : Contents) (e : Evaluation) (n : Contents) → IsLowered t e true n
+    → IsFallenAt (index_of t.arena.frame e.ticket.cell) t.bounds n.bounds
+fallen_at t e n l =
+    let some =
+    some_of (found_cost e.found) (λ m. m < at_cell t.arena.frame t.bounds e.ticket.cell) (l.lowers.0 refl) in
+    let now : Some some.number ≡ Some (at_cell t.arena.frame n.bounds e.ticket.cell) = sym some.is ∙ l.bound in
+    let same : some.number ≡ at_cell t.arena.frame n.bounds e.ticket.cell = cc in
+    record {
+      number = at_cell t.arena.frame n.bounds e.ticket.cell;
+      less = subst (λ m. m < at_cell t.arena.frame t.bounds e.ticket.cell) same some.holds;
+      list = l.moved;
     }
 
 pub none_grown : (a : Nodes) (bounds : List ℕ) → HasGrown a bounds a bounds
@@ -329,6 +343,24 @@ module _ (t m : Contents) (e : Evaluation) (low agreed : Bool) (i : ℕ) (closed
       busy = busy_after;
     }
 
+    -- nothing is cheaper at a cell that was closed and whose bound is at most the published one
+    pub kept_least : RowsOfUploads
+        → ((s n : State) (a : Snapshot) (best : Option ℕ) (low agreed : Bool) → Good s → IsOld s a
+        → IsLeastPrice s.frame a best → Publishes s a best low agreed n → (c : Triple) (r : Use) → InFrame s.frame c
+        → s.pending c ≡ false → n.bounds c ≤ n.bounds a.cell → IsInstance s.frame s.uploads c r
+        → n.bounds c ≤ price n.bounds r)
+        → AreDerived t.arena → InFrame e.ticket.frame e.ticket.cell
+        → IsLeastPrice e.ticket.frame (snapshot_of e.ticket) (found_cost e.found) → (d : Triple)
+        → InFrame t.arena.frame d → (state_of t).pending d ≡ false
+        → at_cell m.arena.frame m.bounds d ≤ at_cell m.arena.frame m.bounds e.ticket.cell
+        → NoneCheaper m.arena.frame m.bounds m.arena.uploads d
+    kept_least rows law derived own least d h was below r i =
+        law (state_of t) (state_of (record m { closed = closed2; busy = busy2 })) (snapshot_of e.ticket)
+        (found_cost e.found) low agreed table.good
+        (old_of rows t.arena (state_of t) e.ticket refl refl derived own fits)
+        (subst (λ f. IsLeastPrice f (snapshot_of e.ticket) (found_cost e.found)) fits.frame least) step_is d r h was
+        below (subst₂ (λ f us. IsInstance f us d r) l.frame l.uploads i)
+
     -- the cell is not taken any more, and the others are as they were
     pub untaken : is_taken (record m { closed = closed2; busy = busy2 }) e.ticket.cell ≡ false
     untaken = subst (λ f. (get_or busy2 (index_of f e.ticket.cell) false && not
@@ -355,17 +387,7 @@ module _ (t m : Contents) (e : Evaluation) (low agreed : Bool) (i : ℕ) (closed
       was = was;
       closed_len = g.closed_len ∙ l.lists.closed ∙ ap size_of l.frame ∙ sym table.lists.closed;
       moved = ⊎_elim
-          (λ fell.
-          let some =
-          some_of (found_cost e.found) (λ n. n < at_cell t.arena.frame t.bounds e.ticket.cell) (l.lowers.0 fell) in
-          let now : Some some.number ≡ Some (at_cell t.arena.frame m.bounds e.ticket.cell) =
-          sym some.is ∙ at_true low _ fell l.bound in
-          let same : some.number ≡ at_cell t.arena.frame m.bounds e.ticket.cell = cc in
-          inl (record {
-            number = at_cell t.arena.frame m.bounds e.ticket.cell;
-            less = subst (λ n. n < at_cell t.arena.frame t.bounds e.ticket.cell) same some.holds;
-            list = at_true low _ fell l.moved;
-          }))
+          (λ fell. inl (fallen_at t e m (subst (λ b. IsLowered t e b m) fell l)))
           (λ kept. inr (record {
             bounds = at_false low _ kept l.kept;
             closed = g.marked agreeing ∙ ap (λ k. set m.closed k true) at

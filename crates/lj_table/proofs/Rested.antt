@@ -5,7 +5,7 @@ use Rattle.std.proofs.Common.{arith, inl, inr, le_trans, ⊎_elim}
 use Rattle.std.proofs.Math.Seq.{take-length}
 use Rattle.std.proofs.Math.ListN.{set}
 use Rattle.std.proofs.lemmas.Bool.{cases_eq}
-use Rattle.std.proofs.lemmas.List.{append-nil, length-append, take-append-drop, take-append-le}
+use Rattle.std.proofs.lemmas.List.{append-nil, length-append, length-set, take-append-drop, take-append-le}
 use Rattle.std.proofs.lemmas.List.Elements.{All-contains, Contains-append_cases}
 use Rattle.std.proofs.lemmas.Option.{slice_get-get_or}
 use Rattle.std.specs.List.{Contains}
@@ -23,7 +23,7 @@ use Rattle.lj_deriv.specs.Nodes.{Nodes}
 use Rattle.lj_relax.specs.Steps.{IsPrice}
 use Rattle.lj_relax.specs.Tickets.{snapshot}
 use Rattle.lj_table.specs.Lowering.{IsGivenBack}
-use Rattle.lj_table.specs.Settling.{HasRested, IsLater, IsTurn, NoneCheaper}
+use Rattle.lj_table.specs.Settling.{HasRested, IsClosedAt, IsLater, IsTurn, NoneCheaper}
 use Rattle.lj_table.specs.Tables.{Contents, HasGrown, IsTable, is_taken, mark_at, state_of}
 use Rattle.lj_table.specs.declared.rests.Rest.{Rest}
 use Rattle.lj_table.proofs.ByCell.{cell_cases}
@@ -242,15 +242,18 @@ module _ (t : Contents) (c : Triple) (i : ℕ) (closed2 busy2 : List Bool) (tabl
     busy = busy_after;
   }
 
-  pub closed_turn : mark_at t.arena.frame t.closed c ≡ false
-      → IsTurn (index_of t.arena.frame c) t (record t { closed = closed2; busy = busy2 })
-  closed_turn was = record {
-    inside = omega (arith, table.lists.index.below c inside, table.lists.bounds);
-    place = omega (arith, table.lists.index.below c inside, table.lists.closed);
-    was = was;
-    closed_len = g.closed_len;
-    moved = inr (record { bounds = refl; closed = g.marked refl ∙ ap (λ k. set t.closed k true) at });
-  }
+  pub closed_at : IsClosedAt (index_of t.arena.frame c) t (record t { closed = closed2; busy = busy2 })
+  closed_at = record { bounds = refl; closed = g.marked refl ∙ ap (λ k. set t.closed k true) at }
+
+  own : is_taken (record t { closed = closed2; busy = busy2 }) c ≡ false
+  own = subst (λ k. (get_or busy2 k false && not (get_or closed2 k false)) ≡ false) at
+      (ap (λ b. b && not (get_or closed2 i false)) g.taken ∙ taken_none (get_or closed2 i false))
+
+  other_taken : (d : Triple) → InFrame t.arena.frame d → d ≢ c
+      → is_taken (record t { closed = closed2; busy = busy2 }) d ≡ is_taken t d
+  other_taken d h other =
+      ap₂ (λ x y. x && not y) (g.busy_others (index_of t.arena.frame d) (other_index d h other))
+      (g.others (index_of t.arena.frame d) (other_index d h other))
 
   pub closed_later : IsLater t (record t { closed = closed2; busy = busy2 })
   closed_later = record {
@@ -260,12 +263,18 @@ module _ (t : Contents) (c : Triple) (i : ℕ) (closed2 busy2 : List Bool) (tabl
     nodes = λ d h same. refl;
     untaken = λ d h was. ⊎_elim
         (λ same. subst (λ z. is_taken (record t { closed = closed2; busy = busy2 }) z ≡ false) (sym same) own)
-        (λ other. ap₂ (λ x y. x && not y) (g.busy_others (index_of t.arena.frame d) (other_index d h other))
-        (g.others (index_of t.arena.frame d) (other_index d h other)) ∙ was)
-        (cell_cases d c);
+        (λ other. other_taken d h other ∙ was) (cell_cases d c);
     fits = λ q h. h;
   }
-    where
-      own : is_taken (record t { closed = closed2; busy = busy2 }) c ≡ false
-      own = subst (λ k. (get_or busy2 k false && not (get_or closed2 k false)) ≡ false) at
-          (ap (λ b. b && not (get_or closed2 i false)) g.taken ∙ taken_none (get_or closed2 i false))
+
+-- where an open place was closed, a turn was made
+pub turn_at : (t n : Contents) (c : Triple) → IsTable t → InFrame t.arena.frame c
+    → mark_at t.arena.frame t.closed c ≡ false → IsClosedAt (index_of t.arena.frame c) t n
+    → IsTurn (index_of t.arena.frame c) t n
+turn_at t n c table inside was closed = record {
+  inside = omega (arith, table.lists.index.below c inside, table.lists.bounds);
+  place = omega (arith, table.lists.index.below c inside, table.lists.closed);
+  was = was;
+  closed_len = ap length closed.closed ∙ length-set t.closed (index_of t.arena.frame c) true;
+  moved = inr closed;
+}

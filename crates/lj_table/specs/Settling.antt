@@ -51,6 +51,11 @@ abbrev pub NoneCheaper : Top → List ℕ → List Upload → Triple → Type 0
 NoneCheaper frame bounds uploads c = (r : Rule) → IsInstance frame uploads c r
     → at_cell frame bounds c ≤ price (at_cell frame bounds) r
 
+-- nothing is cheaper at the cell, where there is one and its bound is at most that of c
+abbrev pub IsKept : Triple → Nodes → List ℕ → Option Triple → Type 0
+IsKept c a bounds o = IfSome o (λ d. at_cell a.frame bounds d ≤ at_cell a.frame bounds c
+    → NoneCheaper a.frame bounds a.uploads d)
+
 -- the table was at rest with the first of its uploads and of its nodes; if no node was added since, no bound has
 -- fallen, and no instance from these uploads is cheaper than its cell's bound
 pub record HasRested (a : Nodes) (bounds : List ℕ) (r : Rest) : Type 0 where

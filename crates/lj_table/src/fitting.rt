@@ -28,7 +28,7 @@ pub fn are_nodes(
     requires nodes { length nodes.now ≡ size_of frame }
     requires bounds { length bounds.now ≡ size_of frame }
     ensures nodes { IsSome result ↔ AreNodes frame arena.now nodes.now bounds.now }
-    ensures same { IfSome result (λ same. same ≡ true → bounds.now ≡ own_bounds.now) }
+    ensures same { IfSome result (λ same. IsTrue same ↔ (bounds.now ≡ own_bounds.now)) }
 {
     if !are_nodes_where_differ(frame, arena, own_nodes, nodes, nodes, bounds) {
         return None;

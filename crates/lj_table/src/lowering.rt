@@ -1,8 +1,9 @@
-ghost use Rattle.std.specs.Prelude.{◌≡◌, ◌<◌, ◌≤◌, All, length};
+ghost use Rattle.std.specs.Prelude.{◌≡◌, ◌<◌, ◌≤◌, All, length, true};
 ghost use Rattle.lj_base.specs.Bounds.{AreBounds, at_cell};
 ghost use Rattle.lj_base.specs.Frames.{InFrame, size_of};
 ghost use Rattle.lj_cover.specs.Instances.{AreUploads, IsRowOf};
-ghost use Rattle.lj_relax.specs.Found.{IsFound};
+ghost use Rattle.lj_relax.specs.Found.{IsFound, found_cost};
+ghost use Rattle.lj_relax.specs.Steps.{IsBelow};
 ghost use Rattle.lj_relax.specs.Tickets.{snapshot};
 ghost use Rattle.lj_table.specs.Lowering.{IsLowered, IsStored};
 ghost use Rattle.lj_table.specs.RulesOver.{IsRuleFor};
@@ -73,8 +74,8 @@ impl Store {
         true
     }
 
-    /// Lowers a cell's bound to what was found over the table's own lists, with no ticket.
-    pub fn lower_here(&mut self, c: Cell, rows: &[Row], found: &Found) -> bool
+    /// Lowers a cell's bound to what was found over the table's own lists, which is below it, with no ticket.
+    pub fn lower_here(&mut self, c: Cell, rows: &[Row], found: &Found)
         requires room { 1 ≤ self.old.arena.spare }
         requires inside { InFrame self.old.arena.frame c }
         requires lists { AreLists (contents_of self.old) }
@@ -84,6 +85,7 @@ impl Store {
         requires bounds { AreBounds self.old.arena.frame self.old.bounds.items }
         requires found { IsFound self.old.arena.frame
             (snapshot self.old.arena.frame c self.old.bounds.items rows.now) found.now }
+        requires below { IsBelow (found_cost found.now) (at_cell self.old.arena.frame self.old.bounds.items c) }
         ensures { IsLowered (contents_of self.old) (record {
           ticket = record {
             frame = self.old.arena.frame;
@@ -94,16 +96,13 @@ impl Store {
             room = 0;
           };
           found = found.now;
-        }) result (contents_of self.new) }
+        }) true (contents_of self.new) }
     {
         choose_law();
         let frame = self.arena.frame();
         let Some(cost) = found.cost() else {
-            return false;
+            unreachable!()
         };
-        if cost >= self.bound(c) {
-            return false;
-        }
         let rule = rule_over(
             &self.arena,
             frame,
@@ -115,6 +114,5 @@ impl Store {
         );
         self.put(c, cost, rule);
         open_readers(frame, c, &mut self.closed, &mut self.busy);
-        true
     }
 }

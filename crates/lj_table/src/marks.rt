@@ -6,8 +6,7 @@ ghost use Rattle.lj_table.specs.Lowering.{IsGivenBack};
 use lj_base::{Cell, Frame, index_law};
 use lj_bitmap::RankMap;
 
-/// The first cell in index order that has no mark. Cost: a step for each 512 cells before it, and one for each `v` and
-/// `k`.
+/// The first cell in index order that has no mark. Cost: a step for each 512 cells before it, and a few for each `k`.
 pub fn first_unmarked(frame: Frame, marks: &RankMap) -> Option<Cell>
     requires { length marks.now ≡ size_of frame }
     ensures none { result ≡ None → AllMarked frame marks.now }

@@ -5,7 +5,7 @@ ghost use Rattle.std.specs.List.{AllByRecursion};
 ghost use Rattle.lj_base.specs.Bounds.{at_cell};
 ghost use Rattle.lj_base.specs.Cells.{IsCell, Triple};
 ghost use Rattle.lj_base.specs.Colex.{choose};
-ghost use Rattle.lj_base.specs.Frames.{InFrame, index_of};
+ghost use Rattle.lj_base.specs.Frames.{InFrame, Top, index_of};
 ghost use Rattle.lj_cover.specs.Derivations.{DerivableIn, root_cell, tree_cost};
 ghost use Rattle.lj_cover.specs.Instances.{IsRowOf, rows_at};
 ghost use Rattle.lj_cover.specs.Rules.{IsCovering};
@@ -14,10 +14,10 @@ ghost use Rattle.lj_deriv.specs.Nodes.{IsDerivedIn, node_tree, plan_tree};
 ghost use Rattle.lj_deriv.specs.Plans.{IsPlanOf};
 ghost use Rattle.lj_induced.specs.Rows.{IsRowAt};
 ghost use Rattle.lj_relax.specs.Found.{IsLeastFound, found_cost};
-ghost use Rattle.lj_relax.specs.Steps.{Accepts, Publishes};
+ghost use Rattle.lj_relax.specs.Steps.{Accepts, IsBelow, Publishes};
 ghost use Rattle.lj_relax.specs.Tickets.{TicketLists, snapshot, snapshot_of};
 ghost use Rattle.lj_table.specs.Claiming.{IsClaimed, IsFirst};
-ghost use Rattle.lj_table.specs.Settling.{IsLater, IsTurn, NoneCheaper};
+ghost use Rattle.lj_table.specs.Settling.{IsClosedAt, IsFallenAt, IsKept, IsLater, IsTurn, NoneCheaper};
 ghost use Rattle.lj_table.specs.Starting.{IsFresh};
 ghost use Rattle.lj_table.specs.Tables.{AreLeast, Fits, IsAtRest, IsNodeOf, IsTable, KeepsNodes, is_taken, state_of};
 
@@ -33,7 +33,10 @@ use lj_base::{Cell, Frame, Memory, Row, cells_law, index_law};
 use lj_bitmap::RankMap;
 use lj_cover::laws::{more_uploads_derive, price_by_row, rows_are_of_uploads};
 use lj_deriv::{Arena, Forest, MAX_ARENA_UPLOADS, Plan};
-use lj_relax::laws::{accept_keeps_good, bounds_are_positive, publish_keeps_good, rest_is_least};
+use lj_relax::laws::{
+    accept_keeps_good, bounds_are_positive, cheap_cells_stay_least, publish_keeps_good,
+    rest_is_least,
+};
 use lj_relax::{Found, Proposal, Ticket, instance_below};
 use lj_rows::present_rows;
 use lj_upload::Accepted;
@@ -187,7 +190,7 @@ impl Table {
     /// of `fits`.
     pub fn fit(&self, ticket: &Ticket) -> Option<bool>
         ensures fits { IsSome result ↔ Fits self.now.arena ticket.now }
-        ensures same { IfSome result (λ same. same ≡ true → ticket.now.bounds ≡ self.now.bounds) }
+        ensures same { IfSome result (λ same. IsTrue same ↔ (ticket.now.bounds ≡ self.now.bounds)) }
     {
         let store = &self.store;
         let frame = ticket.frame();
@@ -386,6 +389,19 @@ impl Table {
         ensures turn { IsTurn (index_of self.old.arena.frame c) self.old self.new }
         ensures later { IsLater self.old self.new }
     {
+        // For what the table's type says.
+        let _ = &self.store;
+        self.keep_closed(c);
+    }
+
+    // Closes a cell at which nothing is cheaper than the bound, whether it is open or not.
+    fn keep_closed(&mut self, c: Cell)
+        requires inside { InFrame self.old.arena.frame c }
+        requires least { NoneCheaper self.old.arena.frame self.old.bounds self.old.arena.uploads c }
+        ensures arena { self.new.arena ≡ self.old.arena }
+        ensures marks { IsClosedAt (index_of self.old.arena.frame c) self.old self.new }
+        ensures later { IsLater self.old self.new }
+    {
         let i = self.store.arena.frame().index(c);
         give_back(&mut self.store.closed, &mut self.store.busy, i, true);
     }
@@ -410,7 +426,7 @@ impl Table {
         ensures later { IsLater self.old self.new }
     {
         match self.cheaper(c, rows) {
-            Some(found) => self.lower(c, rows, &found),
+            Some(found) => self.lower_keeping(c, rows, &found),
             None => self.close(c),
         }
     }
@@ -422,6 +438,8 @@ impl Table {
         requires fit { All (IsRowAt self.now.arena.frame c) rows.now }
         ensures some { IfSome result
             (IsLeastFound self.now.arena.frame (snapshot self.now.arena.frame c self.now.bounds rows.now)) }
+        ensures below { IfSome result
+            (λ found. IsBelow (found_cost found) (at_cell self.now.arena.frame self.now.bounds c)) }
         ensures none { result ≡ None → NoneCheaper self.now.arena.frame self.now.bounds self.now.arena.uploads c }
     {
         bounds_are_positive();
@@ -431,6 +449,57 @@ impl Table {
         instance_below(frame, &self.store.bounds, rows, c, self.store.bound(c))
     }
 
+    // Publishes what was found at an open cell over the bounds and rows of now; but of the cells next to it that read
+    // it, those that were closed and whose bound is at most the new one stay closed.
+    fn lower_keeping(&mut self, c: Cell, rows: &[Row], found: &Found)
+        requires room { 1 ≤ self.old.arena.spare }
+        requires first { IsFirst self.old.arena.frame self.old.closed c }
+        requires rows { rows.now ≡ rows_at self.old.arena.uploads c }
+        requires found { IsLeastFound self.old.arena.frame
+            (snapshot self.old.arena.frame c self.old.bounds rows.now) found.now }
+        requires below { IsBelow (found_cost found.now) (at_cell self.old.arena.frame self.old.bounds c) }
+        ensures turn { IsTurn (index_of self.old.arena.frame c) self.old self.new }
+        ensures later { IsLater self.old self.new }
+    {
+        let frame = self.store.arena.frame();
+        let fewer_points = self.if_closed(with_fewer_points(c));
+        let smaller_sets = self.if_closed(with_smaller_sets(c));
+        let larger_blocks = self.if_closed(with_larger_blocks(frame, c));
+        self.lower(c, rows, found);
+        self.keep(c, fewer_points);
+        self.keep(c, smaller_sets);
+        self.keep(c, larger_blocks);
+    }
+
+    // The cell, where there is one and it is closed.
+    fn if_closed(&self, d: Option<Cell>) -> Option<Cell>
+        requires inside { IfSome d (InFrame self.now.arena.frame) }
+        ensures inside { IfSome result (InFrame self.now.arena.frame) }
+        ensures closed { IfSome result (λ cell. (state_of self.now).pending cell ≡ false) }
+    {
+        match d {
+            Some(cell) => if self.is_pending(cell) { None } else { d },
+            None => None,
+        }
+    }
+
+    // Closes the cell d, where its bound is at most that of c.
+    fn keep(&mut self, c: Cell, d: Option<Cell>)
+        requires cell { InFrame self.old.arena.frame c }
+        requires inside { IfSome d (InFrame self.old.arena.frame) }
+        requires least { IsKept c self.old.arena self.old.bounds d }
+        ensures arena { self.new.arena ≡ self.old.arena }
+        ensures bounds { self.new.bounds ≡ self.old.bounds }
+        ensures closed { length self.new.closed ≡ length self.old.closed }
+        ensures later { IsLater self.old self.new }
+    {
+        if let Some(cell) = d {
+            if self.store.bound(cell) <= self.store.bound(c) {
+                self.keep_closed(cell);
+            }
+        }
+    }
+
     // Publishes what was found at an open cell over the bounds and rows of now.
     fn lower(&mut self, c: Cell, rows: &[Row], found: &Found)
         requires room { 1 ≤ self.old.arena.spare }
@@ -438,21 +507,74 @@ impl Table {
         requires rows { rows.now ≡ rows_at self.old.arena.uploads c }
         requires found { IsLeastFound self.old.arena.frame
             (snapshot self.old.arena.frame c self.old.bounds rows.now) found.now }
+        requires below { IsBelow (found_cost found.now) (at_cell self.old.arena.frame self.old.bounds c) }
+        ensures fallen { IsFallenAt (index_of self.old.arena.frame c) self.old.bounds self.new.bounds }
         ensures turn { IsTurn (index_of self.old.arena.frame c) self.old self.new }
         ensures later { IsLater self.old self.new }
+
+        // A cell that was closed still has nothing cheaper, where its bound is at most the new one.
+        ensures least { (d : Triple) → InFrame self.old.arena.frame d → (state_of self.old).pending d ≡ false
+            → at_cell self.new.arena.frame self.new.bounds d ≤ at_cell self.new.arena.frame self.new.bounds c
+            → NoneCheaper self.new.arena.frame self.new.bounds self.new.arena.uploads d }
     {
         publish_keeps_good();
+        cheap_cells_stay_least();
         bounds_are_positive();
         rows_are_of_uploads();
         self.store.arena.nodes_derive();
         let frame = self.store.arena.frame();
-        let _lowered = self.store.lower_here(c, rows, found);
+        self.store.lower_here(c, rows, found);
         give_back(
             &mut self.store.closed,
             &mut self.store.busy,
             frame.index(c),
             true,
         );
+    }
+}
+
+// The cell of one point less, where there is one.
+fn with_fewer_points(c: Cell) -> Option<Cell>
+    ensures { (frame : Top) → InFrame frame c → IfSome result (InFrame frame) }
+{
+    if 1 < c.v && c.k < c.v {
+        Some(Cell {
+            v: c.v - 1,
+            k: c.k,
+            t: c.t,
+        })
+    } else {
+        None
+    }
+}
+
+// The cell of one point less in each set, where there is one.
+fn with_smaller_sets(c: Cell) -> Option<Cell>
+    ensures { (frame : Top) → InFrame frame c → IfSome result (InFrame frame) }
+{
+    if 0 < c.t {
+        Some(Cell {
+            v: c.v,
+            k: c.k,
+            t: c.t - 1,
+        })
+    } else {
+        None
+    }
+}
+
+// The cell of one point more in each block, where the frame has one.
+fn with_larger_blocks(frame: Frame, c: Cell) -> Option<Cell>
+    ensures { InFrame frame c → IfSome result (InFrame frame) }
+{
+    if c.k < c.v && c.k < frame.top.k {
+        Some(Cell {
+            v: c.v,
+            k: c.k + 1,
+            t: c.t,
+        })
+    } else {
+        None
     }
 }
 

@@ -1,4 +1,4 @@
-use Rattle.std.proofs.Common.{◌≡◌, ◌≤◌, ℕ, List, ◌∙◌, ap, sym, subst, subst₂}
+use Rattle.std.proofs.Common.{◌≤◌, ℕ, List, ◌∙◌, ap, sym, subst, subst₂}
 use Rattle.lj_base.specs.Bounds.{AreBounds, at_cell}
 use Rattle.lj_base.specs.Frames.{Top}
 use Rattle.lj_cover.specs.Instances.{rows_at}
