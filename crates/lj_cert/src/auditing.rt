@@ -32,9 +32,6 @@ use lj_verify::{MAX_WORKERS, Refusal, check};
 use std::alloc::Global;
 use std::thread::Threads;
 
-// Below so many marks one thread checks an upload.
-const FEW_MARKS: u64 = 1 << 22;
-
 /// Whether a certificate is good: its uploads cover, its nodes are derivations in its frame and from its uploads, each
 /// bound is the cost of its node, and no rule costs less at a cell than its bound. The parts are tried in this order.
 /// The cells of the last are shared out among the workers, as are the blocks of an upload with many sets; the result
@@ -164,8 +161,7 @@ fn hold_upload<R: Threads + Sync>(
         blocks,
     } = upload;
     let blocks = blocks.into_vec();
-    let threads = threads_for(cell, blocks.len() as u64, workers);
-    let design = match check(rt, alloc, cell, blocks, threads) {
+    let design = match check(rt, alloc, cell, blocks, workers) {
         Ok(design) => design,
         Err(Refusal::Memory) => return Err(No::Memory),
         Err(refusal) => return Err(No::Upload { place, refusal }),
@@ -176,22 +172,6 @@ fn hold_upload<R: Threads + Sync>(
     match arena.push_upload(accepted) {
         Ok(_) => Ok(()),
         Err(_) => Err(No::Memory),
-    }
-}
-
-// How many threads a check of so many blocks is worth: one where it marks few sets, since a thread is not started for
-// nothing, and else as many as there are workers.
-fn threads_for(cell: Cell, blocks: u64, workers: u64) -> u64
-    requires some_workers { 1 ≤ workers }
-    requires few_workers { workers ≤ MAX_WORKERS }
-    ensures some { 1 ≤ result }
-    ensures few { result ≤ MAX_WORKERS }
-{
-    let sets = binom(u64::from(cell.k), u64::from(cell.t));
-    if blocks.saturating_mul(sets) < FEW_MARKS {
-        1
-    } else {
-        workers
     }
 }
 

@@ -322,12 +322,13 @@ fn the_most_marks_are_made(rt: HostRuntime) -> Result<(), Fail> {
     Ok(())
 }
 
-// The sets of the first 25 points come first, and then those of the point 26 and seven of the first 24.
+// The sets of the first 25 points come first, and then those of the point 26 and seven of the first 24. The blocks have
+// so many sets that several workers are worth their threads: three have maps of their own, and 64 take ranges.
 #[test]
-fn two_blocks_leave_a_set_of_a_large_cell_uncovered(rt: HostRuntime) -> Result<(), Fail> {
+fn blocks_of_two_kinds_leave_a_set_of_a_large_cell_uncovered(rt: HostRuntime) -> Result<(), Fail> {
     let alloc = rt.alloc();
     let cell = Cell { v: 42, k: 25, t: 8 };
-    let mut lines = copies(alloc, TWENTY_FIVE, 1)?;
+    let mut lines = copies(alloc, TWENTY_FIVE, 4)?;
     lines.extend_from_slice(
         b"1 2 3 4 5 6 7 8 9 10 11 12 13 14 15 16 17 18 19 20 21 22 23 24 26\n",
     )?;

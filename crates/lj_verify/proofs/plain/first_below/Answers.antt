@@ -64,10 +64,12 @@ loop-points-preserved c =
 pub returns-clause-first : goal.returns-clause-first
 returns-clause-first c =
     first_of_all _ _ _ c.order_law.ensures (subst
-    (Searched c.args.blocks.now (record { v = c.args.v; k = 0; t = c.args.t }) c.loop-points.first) c.in-None.ensures.steps.1
+    (Searched c.args.blocks.now (record { v = c.args.v; k = 0; t = c.args.t }) c.loop-points.first)
+    c.in-None.ensures.steps.1
     c.loop-points.invariant.searched)
 
 pub returns-clause-none : goal.returns-clause-none
 returns-clause-none c =
-    none_of_all _ _ _ (subst (Searched c.args.blocks.now (record { v = c.args.v; k = 0; t = c.args.t }) c.loop-points.first)
+    none_of_all _ _ _
+    (subst (Searched c.args.blocks.now (record { v = c.args.v; k = 0; t = c.args.t }) c.loop-points.first)
     c.in-None.ensures.steps.1 c.loop-points.invariant.searched)

@@ -32,7 +32,8 @@ mark_prefix-requires-clause-room c =
       arith,
       value,
       first_room c.args.block.now c.args.string.now c.loop-i.i c.args.m c.at-point.result c.args.size
-          (omega arith) c.requires.first c.at-point.ensures c.requires.string,
+          (omega arith) c.requires.first c.at-point.ensures
+          c.requires.string,
     )
 
 pub loop-i-preserved : goal.loop-i-preserved
@@ -62,7 +63,8 @@ loop-i-preserved c =
           (more w.mark_prefix.new.words (subst
           (λ n. Marks start old w.mark_prefix.new.words (IsRankAmong (take i b) n (rest + choose v (s + 1)))) same
           (marks_first c.set_laws.ensures start old w.mark_prefix.new.words b c.args.string.now i c.args.m v s
-          (rest + choose v (s + 1)) c.requires.ascends (omega arith) c.requires.first c.at-point.ensures c.requires.string
+          (rest + choose v (s + 1)) c.requires.ascends (omega arith) c.requires.first c.at-point.ensures
+          c.requires.string
           (subst (λ n. Marks start old w.mark_prefix.new.words
           (IsAtPrefix (rest + n) c.args.string.now (choose v s)))
           least
