@@ -191,15 +191,33 @@ impl Open {
 
 /// Opens the readers of a cell: three near it, and for each greater v and k a run of numbers t.
 pub fn open_readers(frame: &Frame, c: Cell, open: &mut Open) {
+    open_readers_where(frame, c, open, |_| true);
+}
+
+/// Opens the other cells that read a cell, but of those with at most its points only those whose bound is above its
+/// own: an instance that has a cell as a child costs at least the cell's bound.
+#[allow(dead_code)]
+pub fn open_dearer_readers(frame: &Frame, bounds: &[u64], c: Cell, open: &mut Open) {
+    let bound = bounds[frame.index(c)];
+    open_readers_where(frame, c, open, |i| bounds[i] > bound);
+}
+
+fn open_readers_where(frame: &Frame, c: Cell, open: &mut Open, is_dear: impl Fn(usize) -> bool) {
     let top = frame.top;
+    let mut near = |d: Cell| {
+        let i = frame.index(d);
+        if is_dear(i) {
+            open.insert(i, 1);
+        }
+    };
     if 1 < c.v && c.k < c.v {
-        open.insert(frame.index(Cell { v: c.v - 1, ..c }), 1);
+        near(Cell { v: c.v - 1, ..c });
     }
     if 0 < c.t {
-        open.insert(frame.index(Cell { t: c.t - 1, ..c }), 1);
+        near(Cell { t: c.t - 1, ..c });
     }
     if c.k < c.v && c.k < top.k {
-        open.insert(frame.index(Cell { k: c.k + 1, ..c }), 1);
+        near(Cell { k: c.k + 1, ..c });
     }
     for v in c.v + 1..=top.v {
         for k in c.k..=top.k.min(c.k + (v - c.v)) {

@@ -2,6 +2,8 @@
 // rule over its children's nodes, and a worklist in index order.
 // usage: table settle V K T TIMES: fresh tables are settled that many times.
 // table upload V K T TIMES: the same after an upload of all quadruples with xor 0 of 32 points.
+// With `sparing_` in front of these two words a lowered bound opens, of the readers with at most the cell's points,
+// only those whose bound is above it, as the proved table does.
 // table copy V K T COUNT: an upload of (12,6,3) is copied that many times; table accept V K T COUNT: and the copies are
 // accepted in one table; table close V K T COUNT: and that is settled.
 // Each writes the sum of all bounds, and on standard error the number of cells, of evaluations and of lowerings.
@@ -9,7 +11,7 @@
 
 #[allow(dead_code)]
 mod bounds;
-use bounds::{Cell, Frame, Open, Sides, binomials, first_bound, least_with, open_readers, price};
+use bounds::{Cell, Frame, Open, Sides, binomials, first_bound, least_with, open_dearer_readers, open_readers, price};
 
 // Which of the elementary rules it is.
 #[allow(dead_code)]
@@ -135,12 +137,13 @@ struct Table<'a> {
     arena: Vec<Node>,
     open: Open,
     uploads: Vec<Upload>,
+    sparing: bool,
     evaluations: u64,
     lowerings: u64,
 }
 
 impl<'a> Table<'a> {
-    fn start(frame: &'a Frame, binomials: &[Vec<u64>]) -> Table<'a> {
+    fn start(frame: &'a Frame, binomials: &[Vec<u64>], sparing: bool) -> Table<'a> {
         let n = frame.cells.len();
         let mut table = Table {
             frame,
@@ -149,6 +152,7 @@ impl<'a> Table<'a> {
             arena: Vec::with_capacity(n),
             open: Open::all(n),
             uploads: Vec::new(),
+            sparing,
             evaluations: 0,
             lowerings: 0,
         };
@@ -254,7 +258,11 @@ impl<'a> Table<'a> {
             self.bounds[i] = least;
             self.nodes[i] = self.add(rule, c, least);
             self.lowerings += 1;
-            open_readers(self.frame, c, &mut self.open);
+            if self.sparing {
+                open_dearer_readers(self.frame, &self.bounds, c, &mut self.open);
+            } else {
+                open_readers(self.frame, c, &mut self.open);
+            }
         }
     }
 
@@ -351,7 +359,8 @@ fn main() {
     let numbers: Vec<usize> = words[1..].iter().map(|x| x.parse().expect("a number")).collect();
     let frame = Frame::new(Cell { v: numbers[0], k: numbers[1], t: numbers[2] });
     let binomials = binomials();
-    let (work, count) = (words[0].as_str(), numbers[3]);
+    let sparing = words[0].starts_with("sparing_");
+    let (work, count) = (words[0].strip_prefix("sparing_").unwrap_or(&words[0]), numbers[3]);
     let up = match work {
         "settle" | "upload" => Upload::of(Cell { v: 32, k: 4, t: 3 }, &quadruples()),
         _ => Upload::of(Cell { v: 12, k: 6, t: 3 }, &sextuples()),
@@ -359,7 +368,7 @@ fn main() {
     match work {
         "settle" | "upload" => {
             for time in 0..count {
-                let mut table = Table::start(&frame, &binomials);
+                let mut table = Table::start(&frame, &binomials, sparing);
                 if work == "upload" {
                     table.accept(up.clone());
                 }
@@ -368,7 +377,7 @@ fn main() {
             }
         }
         _ => {
-            let mut table = Table::start(&frame, &binomials);
+            let mut table = Table::start(&frame, &binomials, sparing);
             for _ in 0..count {
                 let copy = std::hint::black_box(up.clone());
                 if work != "copy" {

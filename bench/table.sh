@@ -1,12 +1,13 @@
 #!/bin/sh
 # Measures the table: the proved program beside `table.rs`, one written by hand in safe Rust that keeps the same bounds,
 # nodes and rules. `settle` is a fresh table of the frame, and `upload` one that has accepted all quadruples with xor 0
-# of 32 points: the time of one is that of a run with many less that of a run with one, over the number between.
-# `accept` is 4,096 uploads of (12,6,3) that are accepted one after the other, less the time of copying them, and
-# `close` is settling the table that has them. It prints the best and the median of ten such times for each, in
-# microseconds, taken in turn, the ratios, and the peak memory of one run in kilobytes; then how many evaluations the
-# program by hand makes, and as many as there are cells with two for each lowering. It needs rustc, GNU time and a
-# `date` that knows %N, and takes some minutes.
+# of 32 points: the time of one is that of a run with many less that of a run with one, over the number between. Both
+# are timed by hand in two ways: `hand` opens all readers of a lowered bound, and `sparing` only those that the proved
+# program opens. `accept` is 4,096 uploads of (12,6,3) that are accepted one after the other, less the time of copying
+# them, and `close` is settling the table that has them. It prints the best and the median of ten such times for each,
+# in microseconds, taken in turn, the ratios to both programs by hand, and the peak memory of one run in kilobytes; then
+# how many evaluations `hand` and `sparing` make, and as many as there are cells with two for each lowering. It needs
+# rustc, GNU time and a `date` that knows %N, and takes some minutes.
 # usage: table.sh LJ_BENCH_TABLE
 set -eu
 proved=$1
@@ -28,7 +29,7 @@ wall() {
 # between SIDE PROGRAM WORD: appends the time of the work, in microseconds, to the times of that side
 between() {
     # shellcheck disable=SC2086
-    less=$(wall "$2" "$less_work" $frame "$less_times" $cell)
+    less=$(wall "$2" "${3%"$word"}$less_work" $frame "$less_times" $cell)
     # shellcheck disable=SC2086
     more=$(wall "$2" "$3" $frame "$times" $cell)
     echo $(((more - less) / over / 1000)) >> "$work/times_$1"
@@ -47,9 +48,10 @@ summary() {
     sort -n "$work/times_$1" | awk '{ time[NR] = $1 } END { printf "%d %d", time[1], (time[5] + time[6]) / 2 }'
 }
 
-line='%-15s %9s %9s %6s %9s %9s %6s %8s %8s %6s %12s %12s\n'
-printf "$line" work hand ljcr ratio hand ljcr ratio hand ljcr ratio evaluations at_most
-printf "$line" '' best best best median median median kB kB kB hand ''
+line='%-15s %8s %8s %8s %6s %7s %8s %8s %8s %6s %7s %6s %6s %6s %6s %7s %7s\n'
+printf "$line" work hand sparing ljcr /hand /sparing hand sparing ljcr /hand /sparing hand ljcr /hand \
+    hand sparing at_most
+printf "$line" '' best best best best best median median median median median kB kB kB evals evals ''
 while read -r word v k t number; do
     rm -f "$work"/times_*
     frame="$v $k $t"
@@ -61,17 +63,26 @@ while read -r word v k t number; do
     esac
     for run in 1 2 3 4 5 6 7 8 9 10; do
         between hand "$work/table" "$word"
+        case $word in settle | upload) between sparing "$work/table" "sparing_$word" ;; esac
         between ljcr "$proved" "$word"
     done
+    : > "$work/counts_sparing"
+    case $word in settle | upload) peak sparing "$work/table" "sparing_$word" > /dev/null ;; esac
     hand=$(peak hand "$work/table" "$word")
     ljcr=$(peak ljcr "$proved" "$word")
     cmp -s "$work/sum_hand" "$work/sum_ljcr" || echo "the bounds differ at $word $frame"
-    echo "$word,$v,$k,$t $(summary hand) $(summary ljcr) $hand $ljcr $(cat "$work/counts_hand")" |
+    case $word in
+    settle | upload) cmp -s "$work/sum_sparing" "$work/sum_ljcr" || echo "the bounds differ at sparing $frame" ;;
+    esac
+    sparing='- -'
+    case $word in settle | upload) sparing=$(summary sparing) ;; esac
+    counts="$(cat "$work/counts_hand") $(cat "$work/counts_sparing")"
+    echo "$word,$v,$k,$t $(summary hand) $sparing $(summary ljcr) $hand $ljcr $counts" |
         awk -v line="$line" '
             function ratio(a, b) { return b > 0 ? sprintf("%.2f", a / b) : "-" }
             {
-                printf line, $1, $2, $4, ratio($4, $2), $3, $5, ratio($5, $3), $6, $7, ratio($7, $6),
-                    $11, $9 + 2 * $13
+                printf line, $1, $2, $4, $6, ratio($6, $2), ratio($6, $4), $3, $5, $7, ratio($7, $3), ratio($7, $5),
+                    $8, $9, ratio($9, $8), $13, ($19 == "" ? "-" : $19), $11 + 2 * $15
             }'
 done <<WORKS
 settle 32 6 4 40

@@ -14,7 +14,8 @@ use Rattle.lj_blockfile.proofs.Members.{Has-map_suc}
 
 -- ---- one point more
 
-pub block_line-push : (b : List ℕ) (p : ℕ) → 0 < length b → block_line (b ++ p ∷ []) ≡ block_line b ++ 32 ∷ decimal (suc p)
+pub block_line-push : (b : List ℕ) (p : ℕ) → 0 < length b
+    → block_line (b ++ p ∷ []) ≡ block_line b ++ 32 ∷ decimal (suc p)
 block_line-push [] p some = absurd (omega arith)
 block_line-push (q ∷ []) p some = refl
 block_line-push (q ∷ (r ∷ b)) p some =
