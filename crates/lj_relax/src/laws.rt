@@ -58,7 +58,7 @@ pub fn publish_keeps_good()
     rows_are_of_uploads();
 }
 
-/// Where a publication has lowered a bound, nothing is cheaper at a closed cell whose bound is at most the lowered one: an
+/// After a publication nothing is cheaper at a cell that was closed and whose bound is at most the published cell's: an
 /// instance that has a cell as a child costs at least the cell's bound.
 pub fn cheap_cells_stay_least()
     ensures { (s n : State) (a : Snapshot) (best : Option ℕ) (lowered agreed : Bool) → Good s → IsOld s a
