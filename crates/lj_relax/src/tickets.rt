@@ -1,12 +1,12 @@
-ghost use Rattle.std.specs.Prelude.{◌≡◌, ℕ, ◌<◌, ◌≤◌, ◌++◌, [], ◌∷◌, All, length, max, IfOk, OnErr, OnOk};
+ghost use Rattle.std.specs.Prelude.{◌≡◌, ℕ, ◌<◌, ◌≤◌, ◌++◌, [], ◌∷◌, All, length, max, slice_set, IfOk, OnErr, OnOk};
 ghost use Rattle.lj_base.specs.Bounds.{AreBounds, at_cell};
 ghost use Rattle.lj_base.specs.Cells.{IsCell};
 ghost use Rattle.lj_base.specs.Colex.{choose};
-ghost use Rattle.lj_base.specs.Frames.{InFrame, size_of};
+ghost use Rattle.lj_base.specs.Frames.{InFrame, index_of, size_of};
 ghost use Rattle.lj_induced.specs.Rows.{IsRowAt};
 ghost use Rattle.lj_relax.specs.Tickets.{all_sets, first_ticket};
 
-use lj_base::{Cell, Frame, Memory, Row, binom, cells_law, choose_law};
+use lj_base::{Cell, Frame, Memory, Row, at_cell_law, binom, cells_law, choose_law};
 use std::alloc::Global;
 use std::marker::Model;
 
@@ -95,10 +95,34 @@ impl Ticket {
         requires nodes { length nodes.now ≡ size_of self.old.frame }
         ensures { self.new ≡ record self.old { cell = cell; bounds = bounds.now; nodes = nodes.now; rows = [] } }
     {
-        self.cell = cell;
+        self.turn_to(cell);
         self.bounds.copy_from_slice(bounds);
         self.nodes.copy_from_slice(nodes);
+    }
+
+    /// Makes it a ticket of the cell, with the lists that it has and no rows. It takes no memory.
+    pub fn turn_to(&mut self, cell: Cell)
+        requires { InFrame self.old.frame cell }
+        ensures { self.new ≡ record self.old { cell = cell; rows = [] } }
+    {
+        self.cell = cell;
         self.rows.clear();
+    }
+
+    /// Replaces the bound and the node number of one cell. It takes no memory.
+    pub fn store(&mut self, c: Cell, bound: u64, node: u64)
+        requires inside { InFrame self.old.frame c }
+        requires some { 1 ≤ bound }
+        requires small { bound ≤ choose c.v c.t }
+        ensures { self.new ≡ record self.old {
+          bounds = slice_set self.old.bounds (index_of self.old.frame c) bound;
+          nodes = slice_set self.old.nodes (index_of self.old.frame c) node;
+        } }
+    {
+        at_cell_law();
+        let place = self.frame.index(c) as usize;
+        self.bounds[place] = bound;
+        self.nodes[place] = node;
     }
 
     /// Appends a row of the ticket's cell. It takes no memory.

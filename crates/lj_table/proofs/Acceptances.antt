@@ -19,10 +19,11 @@ use Rattle.lj_relax.specs.Steps.{Accepts, IsLesser}
 use Rattle.lj_relax.specs.Tickets.{TicketLists}
 use Rattle.lj_table.specs.Accepting.{IsTakenIn, ReadsFallen}
 use Rattle.lj_table.specs.Settling.{HasRested}
-use Rattle.lj_table.specs.Tables.{AreLists, AreNodes, Contents, Fits, IsNodeOf, IsTable, KeepsNodes, is_taken}
-use Rattle.lj_table.specs.Tables.{mark_at, state_of}
+use Rattle.lj_table.specs.Tables.{AreLatest, AreLists, AreNodes, Contents, Extends, Fits, IsNodeOf, IsTable, KeepsNodes}
+use Rattle.lj_table.specs.Tables.{is_taken, mark_at, state_of}
 use Rattle.lj_table.specs.declared.rests.Rest.{Rest}
 use Rattle.lj_table.proofs.ByCell.{not_iff}
+use Rattle.lj_table.proofs.Extending.{extends_both, still_latest}
 use Rattle.lj_table.proofs.Offering.{both_grown}
 use Rattle.lj_table.proofs.Openings.{still_busy, still_taken}
 use Rattle.lj_table.proofs.Rested.{still_rested}
@@ -52,6 +53,11 @@ table_spare t a2 e h = subst (λ x. IsTable (record t { arena = x })) (sym e) (r
   };
   good = h.good;
   nodes = λ c at. let w = h.nodes c at in record { there = w.there; cell = w.cell; cost = w.cost };
+  latest = λ c at. let w = h.latest c at in record {
+    before = w.before;
+    node = record { there = w.node.there; cell = w.node.cell; cost = w.node.cost };
+    last = w.last;
+  };
   busy = h.busy;
 })
 
@@ -97,6 +103,14 @@ fits_pushed a a2 u q p h = record {
   rows = subst (λ us. All (IsRowOf us q.cell) q.rows) (sym p.uploads)
       (All-weaker (IsRowOf a.uploads q.cell) (IsRowOf (a.uploads ++ u ∷ []) q.cell)
       (λ r k. more_uploads a.uploads (a.uploads ++ u ∷ []) u q.cell r refl k) q.rows h.rows);
+}
+
+pub extends_pushed : (a a2 : Nodes) (u : Upload) → IsPushed a u a2 → Extends a a2
+extends_pushed a a2 u p = record {
+  frame = p.frame;
+  more = omega (arith, ap length p.rules);
+  cells = λ j low. ap root_cell (p.trees j low);
+  costs = λ j low. ap tree_cost (p.trees j low);
 }
 
 pub lists_pushed : (t : Contents) (a2 : Nodes) (u : Upload) → IsPushed t.arena u a2 → AreLists t
@@ -168,6 +182,9 @@ module _ (t n : Contents) (a2 : Nodes) (u : Upload) (table : IsTable t) (p : IsP
       (λ f. at_cell f n.bounds c ≡ at_cell f t.bounds c → at_cell f n.nodes c ≡ at_cell f t.nodes c)
       p.frame (k.keeps c (in_a2 c at)) same
 
+  pub extends_after : Extends t.arena n.arena
+  extends_after = extends_both t.arena a2 n.arena (extends_pushed t.arena a2 u p) k.extends
+
   pub known_after : (rest : Option Rest) → IfSome rest (HasRested t.arena t.bounds)
       → IfSome rest (HasRested n.arena n.bounds)
   known_after rest h =
@@ -185,5 +202,8 @@ module _ (t n : Contents) (a2 : Nodes) (u : Upload) (table : IsTable t) (p : IsP
         (k.are (λ c at. node_pushed t.arena a2 u p (at_cell a2.frame t.nodes c) c (at_cell a2.frame t.bounds c)
         (subst (λ f. IsNodeOf t.arena (at_cell f t.nodes c) c (at_cell f t.bounds c)) (sym p.frame)
         (table.nodes c (subst (λ f. InFrame f c) p.frame at)))));
+    latest = subst (λ f. AreLatest f n.arena (length n.arena.rules) n.nodes n.bounds) (sym k.frame)
+        (k.latest (still_latest t.arena a2 t.nodes t.bounds (extends_pushed t.arena a2 u p) (ap length p.rules)
+        table.latest));
     busy = busy_after;
   }

@@ -13,6 +13,7 @@ use Rattle.lj_base.specs.Frames.{InFrame, index_of}
 use Rattle.lj_relax.specs.Tickets.{TicketLists}
 use Rattle.lj_table.specs.Settling.{IsLater, IsTurn, distance}
 use Rattle.lj_table.specs.Tables.{Contents, Fits, is_taken}
+use Rattle.lj_table.proofs.Extending.{extends_both, extends_none, extends_spare}
 
 fewer : (marks : List Bool) (i : ℕ) → i < length marks → get_or marks i false ≡ false
     → count_by not (set marks i true) + 1 ≡ count_by not marks
@@ -73,6 +74,7 @@ later_none t = record {
   nodes = λ c at same. refl;
   untaken = λ c at was. was;
   fits = λ q h. h;
+  extends = extends_none t.arena;
 }
 
 -- room for more nodes changes nothing else
@@ -85,6 +87,7 @@ later_spare t n e fits = record {
   nodes = λ c at same. ap (λ (x : Contents). at_cell t.arena.frame x.nodes c) e;
   untaken = λ c at was. subst (λ (x : Contents). is_taken x c ≡ false) (sym e) was;
   fits = fits;
+  extends = extends_spare t.arena n.arena (ap (λ (x : Contents). x.arena) e);
 }
 
 pub turn_spare : (t m n : Contents) (c : Triple) → m ≡ record t { arena = record t.arena { spare = m.arena.spare } }
@@ -112,6 +115,7 @@ later_both t m n g h = record {
       keeps_m c at (same ∙ sym mid) ∙ g.nodes c at mid;
   untaken = λ c at was. h.untaken c (in_m c at) (g.untaken c at was);
   fits = λ q k. h.fits q (g.fits q k);
+  extends = extends_both t.arena m.arena n.arena g.extends h.extends;
 }
   where
     in_m : (c : Triple) → InFrame t.arena.frame c → InFrame m.arena.frame c

@@ -4,7 +4,7 @@ use Rattle.std.proofs.Common.{[]}
 use Rattle.std.proofs.Common.{◌∷◌, length, min, refl, sym, ap, ◌∙◌, subst, arith, ⊎_elim}
 use Rattle.std.proofs.Math.ListN.{set}
 use Rattle.std.proofs.Math.Nat.{div-le_of_le-mul}
-use Rattle.std.proofs.lemmas.Bool.{cases_Bool, eqb-true, eqb-false}
+use Rattle.std.proofs.lemmas.Bool.{cases_Bool, cases_eq, eqb-true, eqb-false}
 use Rattle.std.proofs.lemmas.List.{length-set, get_or-set_same, get_or-set_other, length_push}
 use Rattle.lj_base.specs.Bounds.{at_cell}
 use Rattle.lj_base.specs.Cells.{IsCell, Triple}
@@ -87,6 +87,12 @@ begun_next f j a bounds nodes c r i cost a2 inside at b added stands costs low =
         cell = ap (λ m. root_cell (node_tree a2 m)) here ∙ ap root_cell added.tree ∙ stands.cell;
         cost = ap (λ m. tree_cost (node_tree a2 m)) here ∙ ap tree_cost added.tree ∙ stands.cost;
       });
+  places = λ k low. ⊎_elim
+      (λ same. ap (λ m. index_of f (root_cell (node_tree a2 m))) (same ∙ sym b.count ∙ sym added.number)
+      ∙ ap (λ t. index_of f (root_cell t)) added.tree ∙ ap (index_of f) stands.cell ∙ at ∙ sym same)
+      (λ other. ap (λ t. index_of f (root_cell t)) (added.trees k (omega (arith, low, other, b.count)))
+      ∙ b.places k (omega (arith, low, other)))
+      (cases_eq k j);
   node = each_next f b.index (λ d. at_cell f (set nodes j i) d ≡ index_of f d) j c inside at
       (λ d h k. get_or-set_other nodes j (index_of f d) i 0 (λ e. absurd (omega (arith, e, k))) ∙ b.node d h k)
       (ap (λ m. get_or (set nodes j i) m 0) at ∙ get_or-set_same nodes j i 0 (omega (arith, low, b.nodes_len))

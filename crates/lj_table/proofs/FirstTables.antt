@@ -1,5 +1,5 @@
 -- The first state of a table is good.
-use Rattle.std.proofs.Common.{◌≡◌, ◌⊎◌, ℕ, zero, suc, ◌≤◌, Bool, true, false, not, cond, eqb, ◌||◌, List, []}
+use Rattle.std.proofs.Common.{◌≡◌, ◌⊎◌, ℕ, zero, suc, ◌<◌, ◌≤◌, Bool, true, false, not, cond, eqb, ◌||◌, List, []}
 use Rattle.std.proofs.Common.{length, get_or, replicate, refl, sym, ap, ◌∙◌, subst, arith, ⊎_elim}
 use Rattle.std.proofs.Math.Nat.{le-div_iff_mul-le}
 use Rattle.std.proofs.lemmas.Bool.{cases_Bool, eqb-false}
@@ -14,7 +14,7 @@ use Rattle.lj_cover.specs.Rules.{Rule, Upload, One, Runs, All, Leaf, Derived, De
 use Rattle.lj_cover.specs.Rules.{Induced, Condition, ForUpload, rule_cell, rule_cost}
 use Rattle.lj_deriv.specs.Nodes.{Nodes}
 use Rattle.lj_table.specs.Starting.{IsBegun, first_at, first_bound}
-use Rattle.lj_table.specs.Tables.{IsNodeOf, IsTable}
+use Rattle.lj_table.specs.Tables.{IsLatest, IsNodeOf, IsTable}
 use Rattle.lj_table.proofs.ByCell.{apart}
 use Rattle.lj_table.proofs.FirstNodes.{first_small}
 use Rattle.lj_table.proofs.Publications.{AreDerived, node_derivable}
@@ -88,6 +88,20 @@ module _ (a : Nodes) (bounds nodes : List ℕ) (b : IsBegun a.frame (size_of a.f
   node : (c : Triple) → InFrame a.frame c → IsNodeOf a (index_of a.frame c) c (at_cell a.frame bounds c)
   node c h = subst (IsNodeOf a (index_of a.frame c) c) (sym (first c h)) (b.nodes_are c h (b.index.below c h))
 
+  latest : (c : Triple) → InFrame a.frame c
+      → IsLatest a (length a.rules) c (at_cell a.frame nodes c) (at_cell a.frame bounds c)
+  latest c h = subst (λ i. IsLatest a (length a.rules) c i (at_cell a.frame bounds c))
+      (sym (b.node c h (b.index.below c h)))
+      (record {
+        before = (node c h).there;
+        node = node c h;
+        last = λ j late low e. after (index_of a.frame c) j late
+            (sym (ap (index_of a.frame) e) ∙ b.places j (omega (arith, low, b.count)));
+      })
+    where
+      after : (i j : ℕ) → i < j → i ≡ j → ⊥
+      after i j late e = omega (arith, late, e)
+
   pub start_table : (closed busy : List Bool) → closed ≡ replicate (size_of a.frame) false
       → busy ≡ replicate (size_of a.frame) false
       → IsTable (record { arena = a; bounds = bounds; nodes = nodes; closed = closed; busy = busy })
@@ -115,5 +129,6 @@ module _ (a : Nodes) (bounds nodes : List ℕ) (b : IsBegun a.frame (size_of a.f
         };
         nodes = λ c h. subst (λ i. IsNodeOf a i c (at_cell a.frame bounds c)) (sym (b.node c h (b.index.below c h)))
             (node c h);
+        latest = latest;
         busy = λ i h. absurd (apart (sym h ∙ open_ i));
       }

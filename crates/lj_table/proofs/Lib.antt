@@ -1,9 +1,12 @@
 pub mod Acceptances
 pub mod ByCell
+pub mod Claims
 pub mod Distances
+pub mod Extending
 pub mod FirstNodes
 pub mod FirstTables
 pub mod Keeping
+pub mod KnownTickets
 pub mod Offering
 pub mod Openings
 pub mod PartPlaces

@@ -15,8 +15,9 @@ use Rattle.lj_relax.specs.Steps.{IsOffer}
 use Rattle.lj_table.specs.Accepting.{IsFallen, IsLessened, IsOffered, IsStage, IsTakenIn, ReadsFallen, offer_number}
 use Rattle.lj_table.specs.Lowering.{IsStored}
 use Rattle.lj_table.specs.Opening.{IsOpened}
-use Rattle.lj_table.specs.Tables.{AreLists, AreNodes, Contents, HasGrown, mark_at}
+use Rattle.lj_table.specs.Tables.{AreLatest, AreLists, AreNodes, Contents, HasGrown, mark_at}
 use Rattle.lj_table.proofs.ByCell.{cell_cases}
+use Rattle.lj_table.proofs.Extending.{extends_both, extends_none}
 use Rattle.lj_table.proofs.Openings.{both_opened, none_opened}
 use Rattle.lj_table.proofs.Publications.{less_self, lists_after, none_grown}
 
@@ -29,6 +30,8 @@ fallen_none t lists spent = record {
   fits = λ q h. h;
   lists = lists;
   are = λ h. h;
+  latest = λ h. h;
+  extends = extends_none t.arena;
   grown = none_grown t.arena t.bounds;
   most = λ c h. omega arith;
   opened = λ d at. (λ h. inl h, λ w. ⊎_elim (λ h. h) (λ r. absurd (less_self r.fell)) w);
@@ -56,6 +59,9 @@ fallen_both t m n a b g h = record {
   lists = h.lists;
   are = λ k. subst (λ f. AreNodes f n.arena n.nodes n.bounds) g.frame
       (h.are (subst (λ f. AreNodes f m.arena m.nodes m.bounds) (sym g.frame) (g.are k)));
+  latest = λ k. subst (λ f. AreLatest f n.arena (length n.arena.rules) n.nodes n.bounds) g.frame
+      (h.latest (subst (λ f. AreLatest f m.arena (length m.arena.rules) m.nodes m.bounds) (sym g.frame) (g.latest k)));
+  extends = extends_both t.arena m.arena n.arena g.extends h.extends;
   grown = both_grown t.arena m.arena n.arena t.bounds m.bounds n.bounds g.grown h.grown;
   most = λ c at. le_trans (below_m c at) (g.most c at);
   opened = λ d at. (
@@ -125,6 +131,8 @@ offered_by t c cost m closed2 busy2 inside lists low s o =
         fits = s.fits;
         lists = lists_after t m c cost closed2 busy2 lists s o.marks;
         are = s.are;
+        latest = s.latest;
+        extends = s.extends;
         grown = record { more = omega (arith, s.added); same = λ e. absurd (omega (arith, s.added, e)) };
         keeps = λ d at same. ⊎_elim
             (λ q. absurd (less_self (sym s.bound ∙ ap (at_cell t.arena.frame m.bounds) (sym q) ∙ same ∙ ap
@@ -321,6 +329,8 @@ taken_in t m u closed2 busy2 g o = record {
     index = g.fallen.lists.index;
   };
   are = g.fallen.are;
+  latest = g.fallen.latest;
+  extends = g.fallen.extends;
   grown = g.fallen.grown;
   keeps = g.fallen.keeps;
   bounds = λ c at. record {

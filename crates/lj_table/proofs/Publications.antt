@@ -26,11 +26,13 @@ use Rattle.lj_table.specs.Lowering.{AgreesWith, IsGivenBack, IsLowered, IsStored
 use Rattle.lj_table.specs.Opening.{AreOpened, IsOpened}
 use Rattle.lj_table.specs.RulesOver.{IsRuleFor}
 use Rattle.lj_table.specs.Settling.{IsFallenAt, IsLater, IsTurn, NoneCheaper}
-use Rattle.lj_table.specs.Tables.{AreLists, AreNodes, Contents, Fits, HasGrown, IsIndexed, IsNodeOf, IsTable}
+use Rattle.lj_table.specs.Tables.{AreLatest, AreLists, AreNodes, Contents, Extends, Fits, HasGrown, IsIndexed}
+use Rattle.lj_table.specs.Tables.{IsLatest, IsNodeOf, IsTable}
 use Rattle.lj_table.specs.Tables.{is_taken, mark_at, state_of}
 use Rattle.lj_table.proofs.ByCell.{apart, at_cell-other, at_cell-same, at_false, cell_cases, not_iff}
 use Rattle.lj_table.proofs.ByCell.{same_bool}
 use Rattle.lj_table.proofs.Distances.{no_higher}
+use Rattle.lj_table.proofs.Extending.{extends_none}
 use Rattle.lj_table.proofs.Openings.{none_opened, still_busy, still_taken}
 
 pub record SomeOf (o : Option ℕ) (P : ℕ → Type 0) : Type 0 where
@@ -58,6 +60,39 @@ module _ (a : Nodes) (r : Rule) (i : ℕ) (a2 : Nodes) (added : IsAdded a r i a2
     there = omega (arith, h.there, ap length added.rules, length_push a.rules r);
     cell = ap root_cell (added.trees j h.there) ∙ h.cell;
     cost = ap tree_cost (added.trees j h.there) ∙ h.cost;
+  }
+
+  one_more : length a2.rules ≡ length a.rules + 1
+  one_more = ap length added.rules ∙ length_push a.rules r
+
+  extended : Extends a a2
+  extended = record {
+    frame = added.frame;
+    more = omega (arith, one_more);
+    cells = λ j low. ap root_cell (added.trees j low);
+    costs = λ j low. ap tree_cost (added.trees j low);
+  }
+
+  -- the new node is the last one of its cell
+  latest_new : (c : Triple) (cost : ℕ) → IsNodeOf a2 i c cost → IsLatest a2 (length a2.rules) c i cost
+  latest_new c cost here = record {
+    before = here.there;
+    node = here;
+    last = λ j late low e. absurd (omega (arith, late, low, added.number, one_more));
+  }
+
+  -- the last nodes of the other cells stay
+  latest_other : (c d : Triple) (j bound : ℕ) → root_cell (rule_tree a r) ≡ c → d ≢ c
+      → IsLatest a (length a.rules) d j bound → IsLatest a2 (length a2.rules) d j bound
+  latest_other c d j bound cell other h = record {
+    before = omega (arith, h.before, one_more);
+    node = node_kept j d bound h.node;
+    last = λ k late low e. ⊎_elim
+        (λ same. other (sym e ∙ ap (λ m. root_cell (node_tree a2 m)) (same ∙ sym added.number)
+        ∙ ap root_cell added.tree ∙ cell))
+        (λ old. let early : k < length a.rules = omega (arith, low, one_more, old) in
+        h.last k late early (sym (ap root_cell (added.trees k early)) ∙ e))
+        (cases_eq k (length a.rules));
   }
 
   fits_kept : (q : TicketLists) → Fits a q → Fits a2 q
@@ -104,6 +139,18 @@ module _ (a : Nodes) (r : Rule) (i : ℕ) (a2 : Nodes) (added : IsAdded a r i a2
             (sym (at_cell-other f lists.index bounds c d cost inside at other))
             (node_kept (at_cell f nodes d) d (at_cell f bounds d) (were d at))))
             (cell_cases d c);
+        latest = λ were d at. ⊎_elim
+            (λ e. subst (λ z. IsLatest a2 (length a2.rules) z (at_cell f (set nodes (index_of f c) i) z)
+            (at_cell f (set bounds (index_of f c) cost) z)) (sym e)
+            (subst₂ (IsLatest a2 (length a2.rules) c)
+            (sym (at_cell-same f lists.index nodes c i inside lists.nodes))
+            (sym (at_cell-same f lists.index bounds c cost inside lists.bounds)) (latest_new c cost here)))
+            (λ other. subst₂ (IsLatest a2 (length a2.rules) d)
+            (sym (at_cell-other f lists.index nodes c d i inside at other))
+            (sym (at_cell-other f lists.index bounds c d cost inside at other))
+            (latest_other c d (at_cell f nodes d) (at_cell f bounds d) is.cell other (were d at)))
+            (cell_cases d c);
+        extends = extended;
         added = ap length added.rules ∙ length_push a.rules r;
         list = refl;
         bound = at_cell-same f lists.index bounds c cost inside lists.bounds;
@@ -151,6 +198,8 @@ lowered_by t e cost m closed2 busy2 inside lists is low s o =
       fits = s.fits;
       lists = lists_after t m c cost closed2 busy2 lists s o.marks;
       nodes = s.are;
+      latest = s.latest;
+      extends = s.extends;
       grown = record {
         more = omega (arith, s.added);
         same = λ e. absurd (omega (arith, s.added, e));
@@ -201,6 +250,8 @@ not_lowered t e lists none = record {
   fits = λ q h. h;
   lists = lists;
   nodes = λ h. h;
+  latest = λ h. h;
+  extends = extends_none t.arena;
   grown = none_grown t.arena t.bounds;
   bound = tt;
   kept = refl;
@@ -340,6 +391,8 @@ module _ (t m : Contents) (e : Evaluation) (low agreed : Bool) (i : ℕ) (closed
           low agreed table.good (old_of rows t.arena (state_of t) e.ticket refl refl derived own fits)
           (subst (λ h. IsLeastPrice h (snapshot_of e.ticket) (found_cost e.found)) fits.frame least) step_is;
       nodes = subst (λ h. AreNodes h m.arena m.nodes m.bounds) (sym l.frame) (l.nodes table.nodes);
+      latest = subst (λ h. AreLatest h m.arena (length m.arena.rules) m.nodes m.bounds) (sym l.frame)
+          (l.latest table.latest);
       busy = busy_after;
     }
 
@@ -408,4 +461,5 @@ module _ (t m : Contents) (e : Evaluation) (low agreed : Bool) (i : ℕ) (closed
           (λ same. subst (λ z. is_taken (record m { closed = closed2; busy = busy2 }) z ≡ false) (sym same) untaken)
           (λ other. taken_kept d h other ∙ free) (cell_cases d e.ticket.cell);
       fits = l.fits;
+      extends = l.extends;
     }

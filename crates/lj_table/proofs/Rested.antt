@@ -22,11 +22,13 @@ use Rattle.lj_cover.specs.Rules.{Product, Induced, IsCovering, triple}
 use Rattle.lj_deriv.specs.Nodes.{Nodes}
 use Rattle.lj_relax.specs.Steps.{IsPrice}
 use Rattle.lj_relax.specs.Tickets.{snapshot}
+use Rattle.lj_table.specs.Keeping.{IsShut, OnlyShuts}
 use Rattle.lj_table.specs.Lowering.{IsGivenBack}
 use Rattle.lj_table.specs.Settling.{HasRested, IsClosedAt, IsLater, IsTurn, NoneCheaper}
 use Rattle.lj_table.specs.Tables.{Contents, HasGrown, IsTable, is_taken, mark_at, state_of}
 use Rattle.lj_table.specs.declared.rests.Rest.{Rest}
 use Rattle.lj_table.proofs.ByCell.{cell_cases}
+use Rattle.lj_table.proofs.Extending.{extends_none}
 use Rattle.lj_table.proofs.Publications.{RowsOfUploads, taken_none}
 use Rattle.lj_table.proofs.RowLists.{all_of}
 
@@ -239,6 +241,7 @@ module _ (t : Contents) (c : Triple) (i : ℕ) (closed2 busy2 : List Bool) (tabl
       small = table.good.small;
     };
     nodes = table.nodes;
+    latest = table.latest;
     busy = busy_after;
   }
 
@@ -255,6 +258,26 @@ module _ (t : Contents) (c : Triple) (i : ℕ) (closed2 busy2 : List Bool) (tabl
       ap₂ (λ x y. x && not y) (g.busy_others (index_of t.arena.frame d) (other_index d h other))
       (g.others (index_of t.arena.frame d) (other_index d h other))
 
+  pub closed_only : OnlyShuts (λ d. d ≡ c) t (record t { closed = closed2; busy = busy2 })
+  closed_only = record {
+    arena = refl;
+    bounds = refl;
+    nodes = refl;
+    marks = λ d h. ⊎_elim
+        (λ same. inr (
+          same,
+          subst (IsShut (record t { closed = closed2; busy = busy2 })) (sym same) (record {
+            pending = ap not (ap (λ k. get_or closed2 k false) (sym at) ∙ g.own);
+            untaken = own;
+          }),
+        ))
+        (λ other. inl (record {
+          pending = ap not (g.others (index_of t.arena.frame d) (other_index d h other));
+          taken = other_taken d h other;
+        }))
+        (cell_cases d c);
+  }
+
   pub closed_later : IsLater t (record t { closed = closed2; busy = busy2 })
   closed_later = record {
     frame = refl;
@@ -265,6 +288,7 @@ module _ (t : Contents) (c : Triple) (i : ℕ) (closed2 busy2 : List Bool) (tabl
         (λ same. subst (λ z. is_taken (record t { closed = closed2; busy = busy2 }) z ≡ false) (sym same) own)
         (λ other. other_taken d h other ∙ was) (cell_cases d c);
     fits = λ q h. h;
+    extends = extends_none t.arena;
   }
 
 -- where an open place was closed, a turn was made

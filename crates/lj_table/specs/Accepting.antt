@@ -1,5 +1,5 @@
 -- The parts of an acceptance on a table's lists.
-use Rattle.std.specs.Prelude.{◌≡◌, ◌≢◌, ◌↔◌, ◌⊎◌, ℕ, ◌+◌, ◌<◌, ◌≤◌, false, List, []}
+use Rattle.std.specs.Prelude.{◌≡◌, ◌≢◌, ◌↔◌, ◌⊎◌, ℕ, ◌+◌, ◌<◌, ◌≤◌, false, List, [], length}
 use Rattle.lj_base.specs.Bounds.{at_cell}
 use Rattle.lj_base.specs.Cells.{Triple}
 use Rattle.lj_base.specs.Frames.{InFrame, Top}
@@ -8,7 +8,8 @@ use Rattle.lj_cover.specs.Rules.{Rule, Upload, Leaf, Derived, Derived2, rule_cos
 use Rattle.lj_relax.specs.Steps.{IsLesser, IsOffer}
 use Rattle.lj_relax.specs.Tickets.{TicketLists}
 use Rattle.lj_table.specs.Opening.{AreOpened}
-use Rattle.lj_table.specs.Tables.{AreLists, AreNodes, Contents, Fits, HasGrown, KeepsNodes, mark_at}
+use Rattle.lj_table.specs.Tables.{AreLatest, AreLists, AreNodes, Contents, Extends, Fits, HasGrown, KeepsNodes}
+use Rattle.lj_table.specs.Tables.{mark_at}
 
 -- the cell reads one at which the bound has fallen
 pub record ReadsFallen (f : Top) (old new : List ℕ) (d : Triple) : Type 0 where
@@ -25,6 +26,9 @@ pub record IsFallen (spent : ℕ) (t n : Contents) : Type 0 where
   pub fits : (q : TicketLists) → Fits t.arena q → Fits n.arena q
   pub lists : AreLists n
   pub are : AreNodes t.arena.frame t.arena t.nodes t.bounds → AreNodes t.arena.frame n.arena n.nodes n.bounds
+  pub latest : AreLatest t.arena.frame t.arena (length t.arena.rules) t.nodes t.bounds
+      → AreLatest t.arena.frame n.arena (length n.arena.rules) n.nodes n.bounds
+  pub extends : Extends t.arena n.arena
   pub grown : HasGrown t.arena t.bounds n.arena n.bounds
   pub keeps : KeepsNodes t n
   pub most : (c : Triple) → InFrame t.arena.frame c
@@ -68,6 +72,9 @@ pub record IsTakenIn (u : Upload) (t n : Contents) : Type 0 where
   pub fits : (q : TicketLists) → Fits t.arena q → Fits n.arena q
   pub lists : AreLists n
   pub are : AreNodes t.arena.frame t.arena t.nodes t.bounds → AreNodes t.arena.frame n.arena n.nodes n.bounds
+  pub latest : AreLatest t.arena.frame t.arena (length t.arena.rules) t.nodes t.bounds
+      → AreLatest t.arena.frame n.arena (length n.arena.rules) n.nodes n.bounds
+  pub extends : Extends t.arena n.arena
   pub grown : HasGrown t.arena t.bounds n.arena n.bounds
   pub keeps : KeepsNodes t n
   pub bounds : (c : Triple) → InFrame t.arena.frame c

@@ -1,6 +1,7 @@
 pub mod Accepting
 pub mod Claiming
 pub mod Differences
+pub mod Keeping
 pub mod Lowering
 pub mod Opening
 pub mod RulesOver

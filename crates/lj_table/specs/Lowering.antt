@@ -11,7 +11,8 @@ use Rattle.lj_relax.specs.Found.{Evaluation, found_cost}
 use Rattle.lj_relax.specs.Steps.{Agrees, Lowers}
 use Rattle.lj_relax.specs.Tickets.{TicketLists, snapshot_of}
 use Rattle.lj_table.specs.Opening.{AreOpened}
-use Rattle.lj_table.specs.Tables.{AreLists, AreNodes, Contents, Fits, HasGrown, KeepsNodes, mark_at, state_of}
+use Rattle.lj_table.specs.Tables.{AreLatest, AreLists, AreNodes, Contents, Extends, Fits, HasGrown, KeepsNodes}
+use Rattle.lj_table.specs.Tables.{mark_at, state_of}
 
 -- the number has become the bound of the cell, by a new node of that cost
 pub record IsStored (t : Contents) (c : Triple) (cost : ℕ) (n : Contents) : Type 0 where
@@ -22,6 +23,9 @@ pub record IsStored (t : Contents) (c : Triple) (cost : ℕ) (n : Contents) : Ty
   pub bounds_len : length n.bounds ≡ length t.bounds
   pub nodes_len : length n.nodes ≡ length t.nodes
   pub are : AreNodes t.arena.frame t.arena t.nodes t.bounds → AreNodes t.arena.frame n.arena n.nodes n.bounds
+  pub latest : AreLatest t.arena.frame t.arena (length t.arena.rules) t.nodes t.bounds
+      → AreLatest t.arena.frame n.arena (length n.arena.rules) n.nodes n.bounds
+  pub extends : Extends t.arena n.arena
   pub added : length n.arena.rules ≡ length t.arena.rules + 1
   pub list : n.bounds ≡ slice_set t.bounds (index_of t.arena.frame c) cost
   pub bound : at_cell t.arena.frame n.bounds c ≡ cost
@@ -41,6 +45,9 @@ pub record IsLowered (t : Contents) (e : Evaluation) (lowered : Bool) (n : Conte
   pub fits : (q : TicketLists) → Fits t.arena q → Fits n.arena q
   pub lists : AreLists n
   pub nodes : AreNodes t.arena.frame t.arena t.nodes t.bounds → AreNodes t.arena.frame n.arena n.nodes n.bounds
+  pub latest : AreLatest t.arena.frame t.arena (length t.arena.rules) t.nodes t.bounds
+      → AreLatest t.arena.frame n.arena (length n.arena.rules) n.nodes n.bounds
+  pub extends : Extends t.arena n.arena
   pub grown : HasGrown t.arena t.bounds n.arena n.bounds
   pub bound : OnTrue lowered (found_cost e.found ≡ Some (at_cell t.arena.frame n.bounds e.ticket.cell))
   pub kept : OnFalse lowered (n.bounds ≡ t.bounds)

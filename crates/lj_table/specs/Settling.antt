@@ -9,7 +9,7 @@ use Rattle.lj_cover.specs.Instances.{IsInstance, price}
 use Rattle.lj_cover.specs.Rules.{Rule, Upload}
 use Rattle.lj_deriv.specs.Nodes.{Nodes}
 use Rattle.lj_relax.specs.Tickets.{TicketLists}
-use Rattle.lj_table.specs.Tables.{Contents, Fits, IsTable, KeepsNodes, is_taken}
+use Rattle.lj_table.specs.Tables.{Contents, Extends, Fits, IsTable, KeepsNodes, is_taken}
 use Rattle.lj_table.specs.declared.rests.Rest.{Rest}
 
 -- it falls where a bound falls, and where none does and a cell is closed
@@ -35,8 +35,8 @@ pub record IsTurn (i : ℕ) (t n : Contents) : Type 0 where
   pub closed_len : length n.closed ≡ length t.closed
   pub moved : IsFallenAt i t.bounds n.bounds ⊎ IsClosedAt i t n
 
--- no bound has risen, cells whose bound stays keep their node, no cell is taken that was not, and what fitted a table
--- fits it still
+-- no bound has risen, cells whose bound stays keep their node, no cell is taken that was not, what fitted a table fits
+-- it still, and nodes were only added
 pub record IsLater (t n : Contents) : Type 0 where
   pub frame : n.arena.frame ≡ t.arena.frame
   pub uploads : n.arena.uploads ≡ t.arena.uploads
@@ -45,6 +45,7 @@ pub record IsLater (t n : Contents) : Type 0 where
   pub nodes : KeepsNodes t n
   pub untaken : (c : Triple) → InFrame t.arena.frame c → is_taken t c ≡ false → is_taken n c ≡ false
   pub fits : (q : TicketLists) → Fits t.arena q → Fits n.arena q
+  pub extends : Extends t.arena n.arena
 
 -- no instance from the uploads at the cell is cheaper than the cell's bound
 abbrev pub NoneCheaper : Top → List ℕ → List Upload → Triple → Type 0

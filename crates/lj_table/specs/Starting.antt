@@ -6,7 +6,8 @@ use Rattle.lj_base.specs.Cells.{Triple}
 use Rattle.lj_base.specs.Colex.{choose}
 use Rattle.lj_base.specs.Frames.{InFrame, Top, index_of, size_of}
 use Rattle.lj_cover.specs.BlockLists.{ceil_div}
-use Rattle.lj_deriv.specs.Nodes.{Nodes}
+use Rattle.lj_cover.specs.Derivations.{root_cell}
+use Rattle.lj_deriv.specs.Nodes.{Nodes, node_tree}
 use Rattle.lj_table.specs.Tables.{Contents, IsIndexed, IsNodeOf, is_taken, state_of}
 
 -- for v points, sets of t points and blocks of k: one block, blocks in a row, every block, or as many as for blocks of
@@ -39,5 +40,6 @@ pub record IsBegun (f : Top) (n : ℕ) (a : Nodes) (bounds nodes : List ℕ) : T
   pub bounds_len : length bounds ≡ size_of f
   pub nodes_len : length nodes ≡ size_of f
   pub nodes_are : (c : Triple) → InFrame f c → index_of f c < n → IsNodeOf a (index_of f c) c (first_bound c)
+  pub places : (j : ℕ) → j < n → index_of f (root_cell (node_tree a j)) ≡ j
   pub node : (c : Triple) → InFrame f c → index_of f c < n → at_cell f nodes c ≡ index_of f c
   pub bound : (c : Triple) → InFrame f c → index_of f c < n → at_cell f bounds c ≡ first_bound c

@@ -1,5 +1,5 @@
 -- Tables of bounds as contracts see them, and what their type says.
-use Rattle.std.specs.Prelude.{◌≡◌, ◌↔◌, ℕ, ◌<◌, ◌≤◌, Bool, true, false, not, ◌&&◌, All, IsTrue, List}
+use Rattle.std.specs.Prelude.{◌≡◌, ◌≢◌, ◌↔◌, ℕ, ◌<◌, ◌≤◌, Bool, true, false, not, ◌&&◌, All, IsTrue, List}
 use Rattle.std.specs.Prelude.{length, slice_index_or}
 use Rattle.lj_base.specs.Bounds.{at_cell}
 use Rattle.lj_base.specs.Cells.{Triple}
@@ -66,6 +66,17 @@ abbrev pub AreNodes : Top → Nodes → List ℕ → List ℕ → Type 0
 AreNodes frame a nodes bounds =
     (c : Triple) → InFrame frame c → IsNodeOf a (at_cell frame nodes c) c (at_cell frame bounds c)
 
+-- of the arena's first n nodes the one at the place i is the last of the cell, and it costs the bound
+pub record IsLatest (a : Nodes) (n : ℕ) (c : Triple) (i bound : ℕ) : Type 0 where
+  pub before : i < n
+  pub node : IsNodeOf a i c bound
+  pub last : (j : ℕ) → i < j → j < n → root_cell (node_tree a j) ≢ c
+
+-- each cell's node is its last one of the arena's first n nodes, and costs its bound
+abbrev pub AreLatest : Top → Nodes → ℕ → List ℕ → List ℕ → Type 0
+AreLatest frame a n nodes bounds =
+    (c : Triple) → InFrame frame c → IsLatest a n c (at_cell frame nodes c) (at_cell frame bounds c)
+
 -- the index of each cell of the frame is one of as many places as the frame has cells, and no other cell has it
 pub record IsIndexed (frame : Top) : Type 0 where
   pub below : (c : Triple) → InFrame frame c → index_of frame c < size_of frame
@@ -86,11 +97,12 @@ pub record AreLists (t : Contents) : Type 0 where
   pub busy : length t.busy ≡ size_of t.arena.frame
   pub index : IsIndexed t.arena.frame
 
--- the state is good, and each cell has a node that costs its bound
+-- the state is good, and each cell has a node that costs its bound, which is its last one
 pub record IsTable (t : Contents) : Type 0 where
   pub lists : AreLists t
   pub good : Good (state_of t)
   pub nodes : AreNodes t.arena.frame t.arena t.nodes t.bounds
+  pub latest : AreLatest t.arena.frame t.arena (length t.arena.rules) t.nodes t.bounds
   pub busy : (i : ℕ) → slice_index_or t.closed i false ≡ true → slice_index_or t.busy i false ≡ true
 
 -- a table with these nodes may publish what was found over the ticket: each node that it names is there, is of its cell
@@ -104,6 +116,19 @@ pub record Fits (a : Nodes) (q : TicketLists) : Type 0 where
 pub record HasGrown (a : Nodes) (bounds : List ℕ) (a2 : Nodes) (bounds2 : List ℕ) : Type 0 where
   pub more : length a.rules ≤ length a2.rules
   pub same : length a2.rules ≡ length a.rules → bounds2 ≡ bounds
+
+-- nodes were only added: those that were there are of the same cells and cost the same
+pub record Extends (a b : Nodes) : Type 0 where
+  pub frame : b.frame ≡ a.frame
+  pub more : length a.rules ≤ length b.rules
+  pub cells : (j : ℕ) → j < length a.rules → root_cell (node_tree b j) ≡ root_cell (node_tree a j)
+  pub costs : (j : ℕ) → j < length a.rules → tree_cost (node_tree b j) ≡ tree_cost (node_tree a j)
+
+-- the ticket's lists are those that a table with this arena had when the arena had n nodes
+pub record IsOfFirst (a : Nodes) (n : ℕ) (q : TicketLists) : Type 0 where
+  pub frame : q.frame ≡ a.frame
+  pub few : n ≤ length a.rules
+  pub latest : AreLatest q.frame a n q.nodes q.bounds
 
 -- the cells whose bound stays keep their node
 abbrev pub KeepsNodes : Contents → Contents → Type 0

@@ -59,8 +59,8 @@ fn reads_at(frame: Frame, c: Cell, j: u64) -> bool
     reads(frame, c, frame.cell(j))
 }
 
-// Whether the rows are those of the uploads at the cell.
-fn same_rows(uploads: &[Accepted], frame: Frame, c: Cell, rows: &[Row]) -> bool
+/// Whether the rows are those of the uploads at the cell.
+pub fn same_rows(uploads: &[Accepted], frame: Frame, c: Cell, rows: &[Row]) -> bool
     requires few { length uploads.now ≤ MAX_ARENA_UPLOADS }
     requires inside { AllByRecursion (λ u. InFrame frame u.cell) uploads.now }
     ensures { IsTrue result ↔ (rows.now ≡ rows_at uploads.now c) }

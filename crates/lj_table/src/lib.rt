@@ -5,6 +5,7 @@
 mod agreement;
 mod differences;
 mod fitting;
+mod known;
 mod lowering;
 mod marks;
 mod offers;

@@ -1,8 +1,9 @@
-ghost use Rattle.std.specs.Prelude.{◌≡◌, ◌≤◌};
-ghost use Rattle.lj_base.specs.Frames.{InFrame, cells_before_v, index_of};
+ghost use Rattle.std.specs.Prelude.{◌≡◌, ℕ, ◌<◌, ◌≤◌};
+ghost use Rattle.lj_base.specs.Cells.{IsCell, Triple};
+ghost use Rattle.lj_base.specs.Frames.{InFrame, cells_before_v, index_of, size_of};
 ghost use Rattle.lj_base.specs.declared.limits.TheConstants.{MAX_CELLS};
 
-use lj_base::{Cell, Frame};
+use lj_base::{Cell, Frame, cells_law};
 
 /// Places of cells in the order of their frame, for walks in that order: of how many cells have fewer points it keeps
 /// what it found last.
@@ -49,4 +50,19 @@ impl Places {
             self.v = v;
         }
     }
+}
+
+/// Each place below a frame's size is the index of one of its cells. It does nothing.
+pub fn places_law(frame: Frame)
+    ensures { (j : ℕ) → j < size_of frame → (c : Triple) × InFrame frame c × (index_of frame c ≡ j) }
+{
+    cells_law();
+    top_law(frame);
+}
+
+/// The greatest numbers of a frame are those of a cell. It does nothing.
+pub fn top_law(frame: Frame)
+    ensures { IsCell frame.top }
+{
+    let _ = frame.top.v;
 }

@@ -1,9 +1,9 @@
-ghost use Rattle.std.specs.Prelude.{◌≡◌, ◌≢◌, ◌↔◌, ℕ, ◌+◌, ◌<◌, ◌≤◌, true, false, IfOk, IfSome, None, OnOk, OnErr};
-ghost use Rattle.std.specs.Prelude.{IsSome, IsTrue, All, length, []};
+ghost use Rattle.std.specs.Prelude.{◌≡◌, ◌≢◌, ◌↔◌, ℕ, ◌+◌, ◌<◌, ◌≤◌, true, false, IfOk, IfSome, None, Some, OnOk};
+ghost use Rattle.std.specs.Prelude.{IsSome, IsTrue, All, OnErr, length, []};
 ghost use Rattle.std.specs.Bool.{OnTrue};
 ghost use Rattle.std.specs.List.{AllByRecursion};
 ghost use Rattle.lj_base.specs.Bounds.{at_cell};
-ghost use Rattle.lj_base.specs.Cells.{IsCell, Triple};
+ghost use Rattle.lj_base.specs.Cells.{Triple};
 ghost use Rattle.lj_base.specs.Colex.{choose};
 ghost use Rattle.lj_base.specs.Frames.{InFrame, Top, index_of};
 ghost use Rattle.lj_cover.specs.Derivations.{DerivableIn, root_cell, tree_cost};
@@ -17,14 +17,18 @@ ghost use Rattle.lj_relax.specs.Found.{IsLeastFound, found_cost};
 ghost use Rattle.lj_relax.specs.Steps.{Accepts, IsBelow, Publishes};
 ghost use Rattle.lj_relax.specs.Tickets.{TicketLists, snapshot, snapshot_of};
 ghost use Rattle.lj_table.specs.Claiming.{IsClaimed, IsFirst};
+ghost use Rattle.lj_table.specs.Keeping.{OnlyShuts, PublishesKeeping};
+ghost use Rattle.lj_table.specs.Lowering.{AgreesWith};
 ghost use Rattle.lj_table.specs.Settling.{IsClosedAt, IsFallenAt, IsKept, IsLater, IsTurn, NoneCheaper};
 ghost use Rattle.lj_table.specs.Starting.{IsFresh};
-ghost use Rattle.lj_table.specs.Tables.{AreLeast, Fits, IsAtRest, IsNodeOf, IsTable, KeepsNodes, is_taken, state_of};
+ghost use Rattle.lj_table.specs.Tables.{AreLeast, Extends, Fits, IsAtRest, IsNodeOf, IsOfFirst, IsTable, KeepsNodes};
+ghost use Rattle.lj_table.specs.Tables.{is_taken, state_of};
 
 use crate::agreement::agrees;
 use crate::fitting::{are_nodes, are_rows};
 use crate::marks::{first_unmarked, give_back, next_cell};
 use crate::outcomes::{Claimed, Outcome};
+use crate::places::top_law;
 use crate::rests::Rest;
 use crate::rows::push_rows;
 use crate::starting::begin;
@@ -219,6 +223,7 @@ impl Table {
         ensures err { OnErr result (self.new ≡ self.old) }
         ensures more { self.old.arena.spare ≤ self.new.arena.spare }
         ensures fits { (q : TicketLists) → Fits self.old.arena q → Fits self.new.arena q }
+        ensures extends { Extends self.old.arena self.new.arena }
     {
         self.store.arena.reserve(1)
     }
@@ -237,6 +242,7 @@ impl Table {
             ≡ record self.old { arena = record self.old.arena { spare = self.new.arena.spare } }) }
         ensures more { OnErr result (self.old.arena.spare ≤ self.new.arena.spare) }
         ensures fits { (q : TicketLists) → Fits self.old.arena q → Fits self.new.arena q }
+        ensures extends { Extends self.old.arena self.new.arena }
     {
         accept_keeps_good();
         more_uploads_derive();
@@ -281,6 +287,7 @@ impl Table {
         ensures nodes { KeepsNodes self.old self.new }
         ensures spare { self.old.arena.spare ≤ self.new.arena.spare + 1 }
         ensures fits { (q : TicketLists) → Fits self.old.arena q → Fits self.new.arena q }
+        ensures extends { Extends self.old.arena self.new.arena }
     {
         self.publish_fitting(p, false)
     }
@@ -299,17 +306,11 @@ impl Table {
         ensures nodes { KeepsNodes self.old self.new }
         ensures spare { self.old.arena.spare ≤ self.new.arena.spare + 1 }
         ensures fits { (q : TicketLists) → Fits self.old.arena q → Fits self.new.arena q }
+        ensures extends { Extends self.old.arena self.new.arena }
     {
-        publish_keeps_good();
-        bounds_are_positive();
-        rows_are_of_uploads();
-        self.store.arena.nodes_derive();
-        let _ = p.cost();
-        let ticket = p.ticket();
-        let agreed = agrees(&self.store.arena, &self.store.bounds, ticket, same);
-        let lowered = self.store.lower(p);
-        let i = self.store.arena.frame().index(ticket.cell());
-        give_back(&mut self.store.closed, &mut self.store.busy, i, agreed);
+        let store = &self.store;
+        let agreed = agrees(&store.arena, &store.bounds, p.ticket(), same);
+        let lowered = self.publish_checked(p, agreed);
         Outcome { lowered, agreed }
     }
 
@@ -328,6 +329,7 @@ impl Table {
         ensures untaken { (c : Triple) → InFrame self.old.arena.frame c → is_taken self.old c ≡ false
             → is_taken self.new c ≡ false }
         ensures fits { (q : TicketLists) → Fits self.old.arena q → Fits self.new.arena q }
+        ensures extends { Extends self.old.arena self.new.arena }
     {
         rest_is_least();
         let mut rows = Vec::new(alloc);
@@ -401,6 +403,7 @@ impl Table {
         ensures arena { self.new.arena ≡ self.old.arena }
         ensures marks { IsClosedAt (index_of self.old.arena.frame c) self.old self.new }
         ensures later { IsLater self.old self.new }
+        ensures only { OnlyShuts (λ d. d ≡ c) self.old self.new }
     {
         let i = self.store.arena.frame().index(c);
         give_back(&mut self.store.closed, &mut self.store.busy, i, true);
@@ -492,6 +495,7 @@ impl Table {
         ensures bounds { self.new.bounds ≡ self.old.bounds }
         ensures closed { length self.new.closed ≡ length self.old.closed }
         ensures later { IsLater self.old self.new }
+        ensures only { OnlyShuts (λ e. d ≡ Some e) self.old self.new }
     {
         if let Some(cell) = d {
             if self.store.bound(cell) <= self.store.bound(c) {
@@ -530,6 +534,154 @@ impl Table {
             frame.index(c),
             true,
         );
+    }
+}
+
+// Tickets of which it is known when their lists were the table's.
+impl Table {
+    /// How many nodes the table has made.
+    pub fn node_count(&self) -> u64
+        ensures { result ≡ length self.now.arena.rules }
+    {
+        self.store.arena.len()
+    }
+
+    /// The cell of a node.
+    pub fn node_cell(&self, node: u64) -> Cell
+        requires { node < length self.now.arena.rules }
+        ensures { result ≡ root_cell (node_tree self.now.arena node) }
+    {
+        self.store.arena.cell(node)
+    }
+
+    /// The cost of a node.
+    pub fn node_cost(&self, node: u64) -> u64
+        requires { node < length self.now.arena.rules }
+        ensures { result ≡ tree_cost (node_tree self.now.arena node) }
+    {
+        self.store.arena.cost(node)
+    }
+
+    /// Copies the table's lists into a ticket, which loses its rows. It takes no memory.
+    pub fn copy_into(&self, ticket: &mut Ticket)
+        requires frame { ticket.old.frame ≡ self.now.arena.frame }
+        ensures lists { ticket.new
+            ≡ record ticket.old { bounds = self.now.bounds; nodes = self.now.nodes; rows = [] } }
+        ensures latest { IsOfFirst self.now.arena (length self.now.arena.rules) ticket.new }
+    {
+        bounds_are_positive();
+        ticket.fill(ticket.cell(), &self.store.bounds, &self.store.nodes);
+    }
+
+    /// `copy_into`, where the ticket's lists are those that the table had when it had made so many nodes. Cost: a few
+    /// steps for each node that has come since. It takes no memory.
+    pub fn catch_up(&self, ticket: &mut Ticket, known: u64)
+        requires known { IsOfFirst self.now.arena known ticket.old }
+        ensures lists { ticket.new
+            ≡ record ticket.old { bounds = self.now.bounds; nodes = self.now.nodes; rows = [] } }
+        ensures latest { IsOfFirst self.now.arena (length self.now.arena.rules) ticket.new }
+    {
+        ticket.turn_to(ticket.cell());
+        self.store.copy_since(known, ticket);
+    }
+
+    /// `fits`, where the ticket's lists are known to be those that the table had at some time. Cost: a few steps for
+    /// each row.
+    pub fn fits_known(&self, ticket: &Ticket) -> bool
+        requires known { (known : ℕ) × IsOfFirst self.now.arena known ticket.now }
+        ensures { IsTrue result ↔ Fits self.now.arena ticket.now }
+    {
+        are_rows(self.store.arena.uploads(), ticket.cell(), ticket.rows())
+    }
+
+    /// `claim`, where the ticket has the table's lists already. Cost: the search for the cell, and a step for each
+    /// upload.
+    pub fn claim_current(&mut self, ticket: &mut Ticket) -> Claimed
+        requires frame { ticket.old.frame ≡ self.old.arena.frame }
+        requires room { length self.old.arena.uploads ≤ ticket.old.room }
+        requires bounds { ticket.old.bounds ≡ self.old.bounds }
+        requires nodes { ticket.old.nodes ≡ self.old.nodes }
+        ensures claim { IsClaimed self.old ticket.old result self.new ticket.new }
+        ensures latest { IsOfFirst self.new.arena (length self.new.arena.rules) ticket.new }
+        ensures fits { (q : TicketLists) → Fits self.old.arena q → Fits self.new.arena q }
+    {
+        rows_are_of_uploads();
+        let frame = self.store.arena.frame();
+        match next_cell(frame, &self.store.closed, &self.store.busy) {
+            None => Claimed::NoneOpen,
+            Some(cell) => {
+                self.store.busy.mark(frame.index(cell));
+                ticket.turn_to(cell);
+                push_rows(self.store.arena.uploads(), ticket);
+                Claimed::Cell { cell }
+            }
+        }
+    }
+
+    /// `publish`, where the ticket's lists are those that the table had when it had made so many nodes; but of the
+    /// cells next to the published one that read it, those that were closed stay closed, where it is known that still
+    /// nothing is cheaper there. Cost: a few steps for each node that has come since, and for each cell that is opened.
+    pub fn publish_keeping(&mut self, p: &Proposal, known: u64) -> Outcome
+        requires room { 1 ≤ self.old.arena.spare }
+        requires fits { Fits self.old.arena p.now.ticket }
+        requires known { IsOfFirst self.old.arena known p.now.ticket }
+        ensures step { PublishesKeeping (state_of self.old) (snapshot_of p.now.ticket) (found_cost p.now.found)
+            result.lowered result.agreed (state_of self.new) }
+        ensures untaken { is_taken self.new p.now.ticket.cell ≡ false }
+        ensures taken { (c : Triple) → InFrame self.old.arena.frame c → c ≢ p.now.ticket.cell
+            → is_taken self.new c ≡ is_taken self.old c }
+        ensures nodes { KeepsNodes self.old self.new }
+        ensures spare { self.old.arena.spare ≤ self.new.arena.spare + 1 }
+        ensures fits { (q : TicketLists) → Fits self.old.arena q → Fits self.new.arena q }
+        ensures extends { Extends self.old.arena self.new.arena }
+    {
+        let agreed = self.store.agrees_since(known, p.ticket());
+        let (frame, c) = (p.ticket().frame(), p.ticket().cell());
+        let fewer_points = self.if_closed(with_fewer_points(c));
+        let smaller_sets = self.if_closed(with_smaller_sets(c));
+        let larger_blocks = self.if_closed(with_larger_blocks(frame, c));
+        let lowered = self.publish_checked(p, agreed);
+        if !lowered {
+            return Outcome { lowered, agreed };
+        }
+        self.keep(c, fewer_points);
+        self.keep(c, smaller_sets);
+        self.keep(c, larger_blocks);
+        Outcome { lowered, agreed }
+    }
+
+    // `publish`, where it has been found out whether the ticket agrees.
+    fn publish_checked(&mut self, p: &Proposal, agreed: bool) -> bool
+        requires room { 1 ≤ self.old.arena.spare }
+        requires fits { Fits self.old.arena p.now.ticket }
+        requires agreed { IsTrue agreed ↔ AgreesWith self.old.arena self.old.bounds p.now.ticket }
+        ensures step { Publishes (state_of self.old) (snapshot_of p.now.ticket) (found_cost p.now.found)
+            result agreed (state_of self.new) }
+        ensures untaken { is_taken self.new p.now.ticket.cell ≡ false }
+        ensures taken { (c : Triple) → InFrame self.old.arena.frame c → c ≢ p.now.ticket.cell
+            → is_taken self.new c ≡ is_taken self.old c }
+        ensures nodes { KeepsNodes self.old self.new }
+        ensures spare { self.old.arena.spare ≤ self.new.arena.spare + 1 }
+        ensures fits { (q : TicketLists) → Fits self.old.arena q → Fits self.new.arena q }
+        ensures extends { Extends self.old.arena self.new.arena }
+
+        // A cell that was closed still has nothing cheaper, where its bound is at most that of the published one.
+        ensures least { (d : Triple) → InFrame self.old.arena.frame d → (state_of self.old).pending d ≡ false
+            → at_cell self.new.arena.frame self.new.bounds d
+            ≤ at_cell self.new.arena.frame self.new.bounds p.now.ticket.cell
+            → NoneCheaper self.new.arena.frame self.new.bounds self.new.arena.uploads d }
+    {
+        publish_keeps_good();
+        cheap_cells_stay_least();
+        bounds_are_positive();
+        rows_are_of_uploads();
+        self.store.arena.nodes_derive();
+        let _ = p.cost();
+        let ticket = p.ticket();
+        let lowered = self.store.lower(p);
+        let i = self.store.arena.frame().index(ticket.cell());
+        give_back(&mut self.store.closed, &mut self.store.busy, i, agreed);
+        lowered
     }
 }
 
@@ -576,11 +728,4 @@ fn with_larger_blocks(frame: Frame, c: Cell) -> Option<Cell>
     } else {
         None
     }
-}
-
-// The greatest numbers of a frame are those of a cell.
-fn top_law(frame: Frame)
-    ensures { IsCell frame.top }
-{
-    let _ = frame.top.v;
 }

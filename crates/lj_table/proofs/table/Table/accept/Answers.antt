@@ -5,9 +5,9 @@ use Rattle.lj_deriv.specs.Nodes.{Nodes}
 use Rattle.lj_relax.specs.Steps.{Accepts}
 use Rattle.lj_table.specs.Accepting.{IsTakenIn}
 use Rattle.lj_table.specs.Settling.{IsWhole}
-use Rattle.lj_table.specs.Tables.{Contents, Fits, contents_of, state_of}
-use Rattle.lj_table.proofs.Acceptances.{IsPushed, accept_is, accepted_table, fits_pushed, known_after, last_is}
-use Rattle.lj_table.proofs.Acceptances.{pushed_by, spare_alone, table_spare}
+use Rattle.lj_table.specs.Tables.{Contents, Extends, Fits, contents_of, state_of}
+use Rattle.lj_table.proofs.Acceptances.{IsPushed, accept_is, accepted_table, extends_after, fits_pushed, known_after}
+use Rattle.lj_table.proofs.Acceptances.{last_is, pushed_by, spare_alone, table_spare}
 use Rattle.lj_table.proofs.Rested.{rested_spare}
 use Rattle.lj_table.proofs.table.Table.accept.Goals as goal
 
@@ -70,3 +70,10 @@ pub returns-clause-fits : goal.returns-clause-fits
 returns-clause-fits c q h =
     c.take_in.ensures.fits q (fits_pushed c.self.inside.store.arena c.push_upload.new.self c.args.up q (pushed c)
     (subst (λ (x : Contents). Fits x.arena q) (sym c.self.view_is) h))
+
+pub returns-clause-extends : goal.returns-clause-extends
+unfolding before
+returns-clause-extends c =
+    subst (λ (x : Contents). Extends x.arena c.take_in.new.self.arena) c.self.view_is
+    (extends_after (contents_of c.self.inside.store) (contents_of c.take_in.new.self) c.push_upload.new.self c.args.up
+    c.self.invariant.table (pushed c) (taken c))

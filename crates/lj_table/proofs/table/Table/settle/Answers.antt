@@ -1,6 +1,7 @@
 use Rattle.std.proofs.Common.{subst, sym}
-use Rattle.lj_table.specs.Tables.{AreLeast, Contents, Fits, state_of}
+use Rattle.lj_table.specs.Tables.{AreLeast, Contents, Extends, Fits, state_of}
 use Rattle.lj_table.proofs.Distances.{later_both, later_none, nearer}
+use Rattle.lj_table.proofs.Extending.{extends_both}
 use Rattle.lj_table.proofs.table.Table.settle.Goals as goal
 
 pub loop-c-init : goal.loop-c-init
@@ -25,3 +26,13 @@ returns-in_err-advance-clause-fits c q h = c.advance.ensures.later.fits q (c.loo
 pub returns-clause-fits : goal.returns-clause-fits
 returns-clause-fits c q h =
     subst (λ (x : Contents). Fits x.arena q) (sym c.keep_rest.ensures) (c.loop-c.invariant.fits q h)
+
+pub returns-in_err-advance-clause-extends : goal.returns-in_err-advance-clause-extends
+returns-in_err-advance-clause-extends c =
+    extends_both c.args.self.now.arena c.loop-c.self.arena c.advance.new.self.arena c.loop-c.invariant.extends
+    c.advance.ensures.later.extends
+
+pub returns-clause-extends : goal.returns-clause-extends
+returns-clause-extends c =
+    subst (λ (x : Contents). Extends c.args.self.now.arena x.arena) (sym c.keep_rest.ensures)
+    c.loop-c.invariant.extends
