@@ -1,7 +1,8 @@
 //! Brings a frame's table to rest: without workers by `settle`, on one thread; else by one, two or four workers over a
 //! shared table. Its words are V K T WORKERS and what is written: `sum` is the sum of the bounds; `time` is the number
 //! of the workers' turns, and how many nanoseconds passed; `held` says of one worker's turns, on a table that is not
-//! shared, how long the claims took, how long the publications, and how long all, in nanoseconds.
+//! shared, how long the claims took, how long the publications, and how long all, in nanoseconds. There each ticket
+//! gets a copy of the table's lists, whose time counts for all alone.
 #![tactic(auto)]
 
 ghost use Rattle.std.specs.Prelude.{◌≡◌, [], IfOk};
@@ -9,6 +10,7 @@ ghost use Rattle.lj_board.specs.Seen.{NoneRises};
 
 use lj_base::{Cell, Frame, Memory};
 use lj_board::{Pass, Setting};
+use lj_history::History;
 use lj_relax::{Ticket, evaluate};
 use lj_shared::{Next, Shared, State, Worked};
 use lj_table::Table;
@@ -111,7 +113,8 @@ fn at_rest<R: Threads + Wait + Sync>(
         table.settle(alloc)?;
         return Ok((table, 0));
     }
-    shared_at_rest::<Brand, R>(rt, alloc, frame, workers)
+    let history = History::start(alloc)?;
+    shared_at_rest::<Brand, R>(rt, alloc, frame, workers, history)
 }
 
 fn shared_at_rest<J: Setting + Send + Sync, R: Threads + Wait + Sync>(
@@ -119,10 +122,13 @@ fn shared_at_rest<J: Setting + Send + Sync, R: Threads + Wait + Sync>(
     alloc: Global,
     frame: Frame,
     workers: u64,
+    history: History,
 ) -> Result<(Table, u64), Memory>
-    requires { frame ≡ J.frame }
+    requires frame { frame ≡ J.frame }
+    requires named { history.history ≡ J.history }
+    requires new { history.changes ≡ [] }
 {
-    let (shared, pass) = Shared::<J>::start(alloc, frame, 0)?;
+    let (shared, pass) = Shared::<J>::start(alloc, frame, 0, history)?;
     let turns = work(rt, alloc, &shared, pass, workers)?;
     Ok((shared.finish(), turns))
 }
@@ -185,7 +191,7 @@ fn work_alone<J: Setting, R: Wait>(
 ) -> Result<u64, Memory>
     requires { pass.board ≡ shared.now }
 {
-    let mut ticket = Ticket::new(alloc, shared.frame())?;
+    let mut ticket = shared.ticket(rt, alloc)?;
     for turn in 0..u64::MAX {
         match shared.work_one(rt, &mut pass, ticket)? {
             Worked::Turn { ticket: back } => ticket = back,
@@ -205,14 +211,16 @@ fn held<R: Clock>(rt: &R, alloc: Global, frame: Frame) -> Option<(u64, u64, u64)
     let start = Instant::now(rt).ok()?;
     let (mut claims, mut publications) = (0u64, 0u64);
     for _ in 0..u64::MAX {
+        state.table.copy_into(&mut ticket);
         let before = nanos(rt, start)?;
-        if state.next(&mut ticket) != Next::Claimed {
+        if state.next_current(&mut ticket) != Next::Claimed {
             return Some((claims, publications, before));
         }
         let claimed = nanos(rt, start)?;
+        let nodes = state.table.node_count();
         let p = evaluate(ticket);
         let found = nanos(rt, start)?;
-        state.put(&p).ok()?;
+        state.put_known(&p, nodes).ok()?;
         let published = nanos(rt, start)?;
         claims = claims.wrapping_add(claimed.wrapping_sub(before));
         publications = publications.wrapping_add(published.wrapping_sub(found));

@@ -1,4 +1,4 @@
-ghost use Rattle.std.specs.Prelude.{◌≡◌, ◌<◌, ◌≤◌, IfOk, length, map, true};
+ghost use Rattle.std.specs.Prelude.{◌≡◌, ◌<◌, ◌≤◌, [], IfOk, length, map, true};
 ghost use Rattle.std.specs.List.{AllByRecursion};
 ghost use Rattle.lj_base.specs.Frames.{InFrame};
 ghost use Rattle.lj_build.specs.Closing.{IsClosed};
@@ -13,6 +13,7 @@ use lj_base::{Frame, Memory};
 use lj_board::{Board, Pass};
 use lj_build::{Closed, Ends, close};
 use lj_deriv::MAX_ARENA_UPLOADS;
+use lj_history::History;
 use lj_script::{Script, Section};
 use lj_session::{Session, accepted_law, limits_law};
 use lj_shared::Shared;
@@ -44,19 +45,23 @@ pub fn serve<R: Threads + Wait + Sync, G: Gate + Sync>(
     requires few_workers { workers ≤ MAX_WORKERS }
     ensures { IfOk result (λ served. IsWholeServed script served.ends served.closed) }
 {
-    serve_named::<Brand, R, G>(rt, alloc, script, workers, gate)
+    let history = History::start(alloc)?;
+    serve_named::<Brand, R, G>(rt, alloc, script, workers, gate, history)
 }
 
-// Serves a script by whose frame and sections the run is named.
+// Serves a script by whose frame and sections, and by whose history, the run is named.
 fn serve_named<S: Serving + Send + Sync, R: Threads + Wait + Sync, G: Gate + Sync>(
     rt: &R,
     alloc: Global,
     script: Script,
     workers: u64,
     gate: &G,
+    history: History,
 ) -> Result<Served, Memory>
     requires frame { S.frame ≡ script.frame }
     requires sections { S.sections ≡ script.clients }
+    requires named { history.history ≡ S.history }
+    requires new { history.changes ≡ [] }
     requires some_workers { 1 ≤ workers }
     requires few_workers { workers ≤ MAX_WORKERS }
     ensures { IfOk result (λ served. IsWholeServed script served.ends served.closed) }
@@ -68,7 +73,7 @@ fn serve_named<S: Serving + Send + Sync, R: Threads + Wait + Sync, G: Gate + Syn
         frame,
         clients: sections,
     } = script;
-    let (shared, pass) = Shared::<Accepting<S>>::start(alloc, frame, clients)?;
+    let (shared, pass) = Shared::<Accepting<S>>::start(alloc, frame, clients, history)?;
     let passes = split_all(alloc, shared.board(), pass, clients + workers)?;
     let threads = threads_of_each(workers, clients);
     let sessions = start_all(alloc, frame, sections.into_vec(), threads)?;

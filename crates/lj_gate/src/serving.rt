@@ -1,16 +1,19 @@
 use lj_board::Setting;
 use std::marker::{Brand, PhantomData};
 
-/// Names what one run serves: the sections of a script, and its frame. Both exist in proofs alone, and each caller
-/// chooses them.
+/// Names what one run serves: the sections of a script, its frame, and the history of the run's table. They exist in
+/// proofs alone, and each caller chooses them.
 pub trait Serving {
     ghost use Rattle.std.specs.Prelude.{List};
+    ghost use Rattle.atomic_table.specs.Seated.{TableId};
     ghost use Rattle.lj_base.specs.Frames.{Top};
     ghost use Rattle.lj_script.specs.Values.{SectionValue};
 
     ghost frame: { Top };
 
     ghost sections: { List SectionValue };
+
+    ghost history: { TableId };
 }
 
 // A call at `Brand` chooses the members in its proof, and so names a run of any script, whatever they are here.
@@ -20,6 +23,16 @@ impl Serving for Brand {
     ghost frame = { record { top = record { v = 1; k = 1; t = 0 } } };
 
     ghost sections = { [] };
+
+    ghost history = { record {
+      words = 1;
+      slots = 0;
+      views_name = 0;
+      atom = 0;
+      block = 0;
+      offset = 0;
+      slot_names = [];
+    } };
 }
 
 /// The setting of such a run: it allows the uploads that are accepted of its sections.
@@ -33,4 +46,6 @@ impl<S: Serving> Setting for Accepting<S> {
     ghost frame = { S.frame };
 
     ghost allowed = { IsAcceptedIn S.frame S.sections };
+
+    ghost history = { S.history };
 }

@@ -9,7 +9,6 @@ use crate::gates::Gate;
 use crate::serving::{Accepting, Serving};
 use lj_base::Memory;
 use lj_board::Pass;
-use lj_relax::Ticket;
 use lj_shared::{Shared, Worked};
 use std::alloc::Global;
 use std::marker::PhantomData;
@@ -73,7 +72,7 @@ fn work<S: Serving, R: Wait, G: Gate>(
     ensures least { OnOk result (AtMostEach S.frame [] pass.new) }
     ensures falls { NoneRises pass.old pass.new }
 {
-    let mut ticket = Ticket::new(alloc, shared.frame())?;
+    let mut ticket = shared.ticket(rt, alloc)?;
     let mut turn: u64 = 1;
     for _ in rt.forever() {
         gate.before(number, turn);

@@ -1,5 +1,5 @@
 -- What a settling client does while no cell is open.
-use Rattle.std.proofs.Common.{◌≡◌, ◌⊎◌, List, subst, ⊎_elim}
+use Rattle.std.proofs.Common.{◌≡◌, ◌≢◌, ◌⊎◌, ◌∙◌, List, ap, length, refl, subst, ⊎_elim}
 use Rattle.lj_cover.specs.Rules.{Upload}
 use Rattle.lj_relax.specs.Tickets.{TicketLists}
 use Rattle.lj_shared.specs.Holding.{Closes, HasAll, IsBrought, Settles}
@@ -27,3 +27,11 @@ settles_closed own s m n q r same ticket (NeedsRoom rows) h = absurd h
 settles_closed own s m n q r same ticket Claimed h = absurd h
 settles_closed own s m n q r same ticket Accepted h = (subst (λ (x : State). IsBrought own x n) same h, ticket)
 settles_closed own s m n q r same ticket Settled h = (subst (λ (x : State). HasAll own x n) same h, ticket)
+
+-- where no upload was accepted, the table has as many nodes as before
+pub closed_nodes : (own : List Upload) (s m n : State) → m ≡ s → (found : Settling) → Closes own m n found
+    → found ≢ Accepted → length n.table.arena.rules ≡ length s.table.arena.rules
+closed_nodes own s m n same (NeedsRoom rows) h other = absurd h
+closed_nodes own s m n same Claimed h other = absurd h
+closed_nodes own s m n same Accepted h other = absurd (other refl)
+closed_nodes own s m n same Settled h other = ap (λ (x : State). length x.table.arena.rules) (h.state ∙ same)

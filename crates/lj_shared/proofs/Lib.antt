@@ -1,3 +1,4 @@
+pub mod Changes
 pub mod Closing
 pub mod Listed
 pub mod Puts

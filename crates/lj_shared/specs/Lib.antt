@@ -1,3 +1,4 @@
+pub mod Changes
 pub mod States
 pub mod Passes
 pub mod Holding

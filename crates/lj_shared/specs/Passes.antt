@@ -19,6 +19,6 @@ abbrev pub AtMostOffers : Upload → PassView → Type 0
 AtMostOffers u p = (c : Triple) (r : Rule) → IsOffer u c r → seen_of p c ≤ rule_cost r []
 
 -- a turn gives back a ticket of the same frame; at the end the pass has seen at most what needs no upload
-abbrev pub IsWorked : Top → PassView → Worked → Type 0
+abbrev pub IsWorked : {J : Type 0} → Top → PassView → Worked J → Type 0
 IsWorked frame p (Turn ticket) = ticket.frame ≡ frame
 IsWorked frame p Ended = AtMostEach frame [] p

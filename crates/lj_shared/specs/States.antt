@@ -9,6 +9,7 @@ use Rattle.lj_relax.specs.Found.{Evaluation, found_cost}
 use Rattle.lj_relax.specs.Steps.{Publishes}
 use Rattle.lj_relax.specs.Tickets.{TicketLists, snapshot_of}
 use Rattle.lj_table.specs.Claiming.{IsClaim, IsNoClaim}
+use Rattle.lj_table.specs.Keeping.{PublishesKeeping}
 use Rattle.lj_table.specs.Tables.{Contents, KeepsNodes, is_taken, state_of}
 use Rattle.lj_table.specs.declared.outcomes.Outcome.{Outcome}
 use Rattle.lj_shared.specs.declared.state.Next.{Next}
@@ -28,6 +29,14 @@ TakesNext s q Ended n r = IsNoClaim s.table q n.table r × (n ≡ s) × (s.clien
 -- from a table to the table after what was found over a ticket has been published
 pub record IsPut (t : Contents) (e : Evaluation) (outcome : Outcome) (n : Contents) : Type 0 where
   pub step : Publishes (state_of t) (snapshot_of e.ticket) (found_cost e.found) outcome.lowered outcome.agreed
+      (state_of n)
+  pub untaken : is_taken n e.ticket.cell ≡ false
+  pub taken : (c : Triple) → InFrame t.arena.frame c → c ≢ e.ticket.cell → is_taken n c ≡ is_taken t c
+  pub nodes : KeepsNodes t n
+
+-- `IsPut`, but cells that were closed may stay closed
+pub record IsPutKeeping (t : Contents) (e : Evaluation) (outcome : Outcome) (n : Contents) : Type 0 where
+  pub step : PublishesKeeping (state_of t) (snapshot_of e.ticket) (found_cost e.found) outcome.lowered outcome.agreed
       (state_of n)
   pub untaken : is_taken n e.ticket.cell ≡ false
   pub taken : (c : Triple) → InFrame t.arena.frame c → c ≢ e.ticket.cell → is_taken n c ≡ is_taken t c

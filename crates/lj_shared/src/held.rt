@@ -1,15 +1,15 @@
-ghost use Rattle.std.specs.Prelude.{◌≡◌, ◌↔◌, ◌+◌, ◌-◌, ◌<◌, ◌≤◌, [], IfNone, IfOk, IfSome, IsSome, IsTrue};
-ghost use Rattle.std.specs.Prelude.{OnErr, OnOk, false, true, min};
+ghost use Rattle.std.specs.Prelude.{◌≡◌, ◌≢◌, ◌↔◌, ◌+◌, ◌-◌, ◌<◌, ◌≤◌, [], IfNone, IfOk, IfSome, IsSome, IsTrue};
+ghost use Rattle.std.specs.Prelude.{OnErr, OnOk, false, true, length, min};
 ghost use Rattle.std.specs.List.{AllByRecursion};
 ghost use Rattle.lj_base.specs.Frames.{InFrame};
 ghost use Rattle.lj_board.specs.Seen.{NoneRises, saw, seen_of};
 ghost use Rattle.lj_cover.specs.Uses.{DerivableBy};
 ghost use Rattle.lj_relax.specs.Steps.{Accepts};
-ghost use Rattle.lj_table.specs.Tables.{Fits, IsAtRest, state_of};
+ghost use Rattle.lj_table.specs.Tables.{Extends, Fits, IsAtRest, IsOfFirst, state_of};
 ghost use Rattle.lj_shared.specs.Holding.{AreShown, HasMoreRoom, IsFound, IsSettled, IsShown, IsShownPlan};
 ghost use Rattle.lj_shared.specs.Holding.{Closes, Settles, Works, derived_cell};
 ghost use Rattle.lj_shared.specs.Passes.{AtMostEach, AtMostOffers};
-ghost use Rattle.lj_shared.specs.States.{AreAmong, IsPut};
+ghost use Rattle.lj_shared.specs.States.{AreAmong, IsPutKeeping};
 
 use crate::state::{Next, State};
 use lj_base::{Cell, Memory};
@@ -80,6 +80,13 @@ impl<J: Setting> Held<J> {
         let Held { state, setting: _ } = self;
         let State { table, clients: _ } = state;
         table
+    }
+
+    pub fn table(&self) -> &Table
+        ensures table { result.now ≡ self.now.table }
+        ensures frame { result.now.arena.frame ≡ J.frame }
+    {
+        &self.state.table
     }
 
     /// One client less runs, where one does.
@@ -158,6 +165,7 @@ impl<J: Setting> Held<J> {
         ensures clients { self.new.clients ≡ self.old.clients }
         ensures err { OnErr result (HasMoreRoom self.old self.new) }
         ensures offers { OnOk result (AtMostOffers up pass.new) }
+        ensures extends { Extends self.old.table.arena self.new.table.arena }
         ensures falls { NoneRises pass.old pass.new }
     {
         if self.state.table.accepted().len() as u64 >= MAX_ARENA_UPLOADS {
@@ -174,16 +182,21 @@ impl<J: Setting> Held<J> {
     pub fn work(&mut self, board: &Board<J>, pass: &mut Pass, ticket: &mut Ticket) -> Work
         requires pass { pass.old.board ≡ board.now }
         requires ticket { ticket.old.frame ≡ J.frame }
+        requires bounds { ticket.old.bounds ≡ self.old.table.bounds }
+        requires nodes { ticket.old.nodes ≡ self.old.table.nodes }
+        requires latest { IsOfFirst self.old.table.arena (length self.old.table.arena.rules) ticket.old }
         ensures works { Works self.old ticket.old result self.new ticket.new }
         ensures found { IsFound J.frame pass.new result }
         ensures ticket { ticket.new.frame ≡ J.frame }
+        ensures arena { self.new.table.arena ≡ self.old.table.arena }
+        ensures latest { IsOfFirst self.new.table.arena (length self.new.table.arena.rules) ticket.new }
         ensures falls { NoneRises pass.old pass.new }
     {
         let rows = self.state.table.accepted().len() as u64;
         if ticket.room() < rows {
             return Work::NeedsRoom { rows };
         }
-        match self.state.next(ticket) {
+        match self.state.next_current(ticket) {
             Next::Claimed => Work::Found {
                 next: Next::Claimed,
             },
@@ -207,19 +220,26 @@ impl<J: Setting> Held<J> {
     ) -> Result<Settling, Memory>
         requires pass { pass.old.board ≡ board.now }
         requires ticket { ticket.old.frame ≡ J.frame }
+        requires bounds { ticket.old.bounds ≡ self.old.table.bounds }
+        requires nodes { ticket.old.nodes ≡ self.old.table.nodes }
+        requires latest { IsOfFirst self.old.table.arena (length self.old.table.arena.rules) ticket.old }
         requires inside { AllByRecursion (λ u. InFrame J.frame u.cell) own.now }
         requires allowed { AllByRecursion J.allowed own.now }
         ensures settles { IfOk result (λ found. Settles own.now self.old ticket.old found self.new ticket.new) }
         ensures err { OnErr result (HasMoreRoom self.old self.new) }
         ensures settled { IfOk result (IsSettled J.frame own.now pass.new) }
         ensures ticket { ticket.new.frame ≡ J.frame }
+        ensures extends { Extends self.old.table.arena self.new.table.arena }
+        ensures known { IsOfFirst self.new.table.arena (length self.old.table.arena.rules) ticket.new }
+        ensures latest { IfOk result (λ found. found ≢ Settling.Accepted
+            → length self.new.table.arena.rules ≡ length self.old.table.arena.rules) }
         ensures falls { NoneRises pass.old pass.new }
     {
         let rows = self.state.table.accepted().len() as u64;
         if ticket.room() < rows {
             return Ok(Settling::NeedsRoom { rows });
         }
-        match self.state.next(ticket) {
+        match self.state.next_current(ticket) {
             Next::Claimed => Ok(Settling::Claimed),
             Next::Waits | Next::Ended => self.close(alloc, board, pass, own),
         }
@@ -239,6 +259,7 @@ impl<J: Setting> Held<J> {
         requires allowed { AllByRecursion J.allowed own.now }
         ensures closes { IfOk result (Closes own.now self.old self.new) }
         ensures err { OnErr result (HasMoreRoom self.old self.new) }
+        ensures extends { Extends self.old.table.arena self.new.table.arena }
         ensures settled { IfOk result (IsSettled J.frame own.now pass.new) }
         ensures falls { NoneRises pass.old pass.new }
     {
@@ -268,6 +289,7 @@ impl<J: Setting> Held<J> {
         ensures step { OnOk result (Accepts (state_of self.old.table) up.now (state_of self.new.table)) }
         ensures clients { self.new.clients ≡ self.old.clients }
         ensures err { OnErr result (HasMoreRoom self.old self.new) }
+        ensures extends { Extends self.old.table.arena self.new.table.arena }
         ensures falls { NoneRises pass.old pass.new }
     {
         let copy = up.copy(alloc)?;
@@ -275,25 +297,30 @@ impl<J: Setting> Held<J> {
     }
 
     /// Publishes what was found over a ticket, where the ticket fits; else nothing changes, and there is no outcome.
-    /// Where the bound has fallen, so does the word.
+    /// Where the bound has fallen, so does the word. The ticket's lists are those that the table had when it had made
+    /// so many nodes.
     pub fn put(
         &mut self,
         board: &Board<J>,
         pass: &mut Pass,
         p: &Proposal,
+        known: u64,
     ) -> Result<Option<Outcome>, Memory>
         requires pass { pass.old.board ≡ board.now }
         requires ticket { p.now.ticket.frame ≡ J.frame }
+        requires known { IsOfFirst self.old.table.arena known p.now.ticket }
         ensures fits { IfOk result (λ o. IsSome o ↔ Fits self.old.table.arena p.now.ticket) }
-        ensures put { IfOk result (λ o. IfSome o (λ outcome. IsPut self.old.table p.now outcome self.new.table)) }
+        ensures put { IfOk result (λ o. IfSome o
+            (λ outcome. IsPutKeeping self.old.table p.now outcome self.new.table)) }
         ensures none { IfOk result (λ o. IfNone o (self.new ≡ self.old)) }
+        ensures extends { Extends self.old.table.arena self.new.table.arena }
         ensures clients { self.new.clients ≡ self.old.clients }
         ensures err { OnErr result (self.new ≡ self.old) }
         ensures shown { IfOk result (λ o. IfSome o (λ outcome. outcome.lowered ≡ true
             → IsShown self.new.table pass.new p.now.ticket.cell)) }
         ensures falls { NoneRises pass.old pass.new }
     {
-        let outcome = self.state.put(p)?;
+        let outcome = self.state.put_known(p, known)?;
         if is_lowered(outcome) {
             self.show(board, pass, p.ticket().cell());
         }

@@ -3,8 +3,11 @@
 #![tactic(auto)]
 
 mod held;
+mod known;
+mod locked;
 mod shared;
 mod state;
 
+pub use known::{KnownProposal, KnownTicket};
 pub use shared::{Shared, Worked};
 pub use state::{Next, State};

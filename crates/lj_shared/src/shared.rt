@@ -1,4 +1,4 @@
-ghost use Rattle.std.specs.Prelude.{◌≡◌, ◌≤◌, [], false, IfOk, OnOk};
+ghost use Rattle.std.specs.Prelude.{◌≡◌, ◌≤◌, [], IfNone, IfOk, OnOk};
 ghost use Rattle.std.specs.List.{AllByRecursion};
 ghost use Rattle.lj_base.specs.Cells.{Triple};
 ghost use Rattle.lj_base.specs.Colex.{choose};
@@ -10,11 +10,14 @@ ghost use Rattle.lj_shared.specs.Holding.{IsShownPlan};
 ghost use Rattle.lj_shared.specs.Passes.{AtMostEach, AtMostOffers, IsWorked};
 
 use crate::held::{Held, Settling, Work};
+use crate::known::{KnownProposal, KnownTicket};
+use crate::locked::Locked;
 use crate::state::{Next, State};
 use lj_base::{Cell, Frame, Memory};
 use lj_board::{Board, Pass, Setting};
 use lj_deriv::Plan;
-use lj_relax::{Proposal, Ticket, evaluate};
+use lj_history::History;
+use lj_relax::Ticket;
 use lj_table::{Outcome, Table};
 use lj_upload::Accepted;
 use std::alloc::Global;
@@ -26,7 +29,7 @@ use std::sync::{Condvar, Mutex, Wait};
 #[derive(Drop)]
 pub struct Shared<J: Setting> {
     frame: Frame,
-    state: Mutex<Held<J>>,
+    state: Mutex<Locked<J>>,
     changed: Condvar,
     board: Board<J>,
 }
@@ -44,16 +47,23 @@ impl<J: Setting> Model for Shared<J> {
 
 /// What a worker's turn comes to: the ticket comes back, or there is no further turn.
 #[derive(Drop)]
-pub enum Worked {
-    Turn { ticket: Ticket },
+pub enum Worked<J: Setting> {
+    Turn { ticket: KnownTicket<J> },
     Ended,
 }
 
 impl<J: Setting> Shared<J> {
-    /// A fresh table of the frame, and a pass that has seen its bounds. Workers wait for uploads until as many clients
-    /// have left as are given here.
-    pub fn start(alloc: Global, frame: Frame, clients: u64) -> Result<(Shared<J>, Pass), Memory>
+    /// A fresh table of the frame, with a history that is new, and a pass that has seen its bounds. Workers wait for
+    /// uploads until as many clients have left as are given here.
+    pub fn start(
+        alloc: Global,
+        frame: Frame,
+        clients: u64,
+        history: History,
+    ) -> Result<(Shared<J>, Pass), Memory>
         requires frame { frame ≡ J.frame }
+        requires named { history.history ≡ J.history }
+        requires new { history.changes ≡ [] }
         ensures board { IfOk result (λ r. r.1.board ≡ r.0) }
         ensures frame { IfOk result (λ r. r.0.frame ≡ J.frame) }
         ensures seen { IfOk result (λ r. (c : Triple) → InFrame J.frame c → seen_of r.1 c ≡ first_bound c) }
@@ -61,7 +71,8 @@ impl<J: Setting> Shared<J> {
     {
         let table = Table::start(alloc, frame)?;
         let (board, pass) = Board::start(alloc, frame, table.bounds())?;
-        let state = Mutex::new(Held::start(State { table, clients }));
+        let held = Held::start(State { table, clients });
+        let state = Mutex::new(Locked::start(held, history));
         let shared = Shared {
             frame,
             state,
@@ -152,19 +163,26 @@ impl<J: Setting> Shared<J> {
         ensures settled { OnOk result (AtMostEach J.frame own.now pass.new) }
         ensures falls { NoneRises pass.old pass.new }
     {
-        let mut ticket = Ticket::new(alloc, self.frame)?;
+        let mut ticket = self.ticket(rt, alloc)?;
         for _ in rt.forever() {
             let mut state = self.state.lock(rt);
-            let found = state.settle(alloc, &self.board, pass, &mut ticket, own)?;
+            let (found, back) = state.settle(alloc, &self.board, pass, ticket, own)?;
             drop(state);
+            ticket = back;
             match found {
                 Settling::Settled => return Ok(()),
                 Settling::NeedsRoom { rows } => ticket.reserve(rows)?,
                 Settling::Accepted => self.changed.notify_all(),
-                Settling::Claimed => ticket = self.publish(rt, pass, evaluate(ticket))?,
+                Settling::Claimed => ticket = self.publish(rt, pass, ticket.evaluate())?,
             }
         }
         unreachable!()
+    }
+
+    /// A ticket with the table's lists.
+    pub fn ticket<R: Wait>(&self, rt: &R, alloc: Global) -> Result<KnownTicket<J>, Memory> {
+        let ticket = Ticket::new(alloc, self.frame)?;
+        Ok(self.state.lock(rt).ticket(ticket))
     }
 
     /// One turn of a worker: it claims a cell under the lock, looks for a least price without it, and publishes under
@@ -174,35 +192,41 @@ impl<J: Setting> Shared<J> {
         &self,
         rt: &R,
         pass: &mut Pass,
-        mut ticket: Ticket,
-    ) -> Result<Worked, Memory>
+        ticket: KnownTicket<J>,
+    ) -> Result<Worked<J>, Memory>
         requires pass { pass.old.board ≡ self.now }
-        requires ticket { ticket.frame ≡ J.frame }
         ensures worked { IfOk result (IsWorked J.frame pass.new) }
         ensures falls { NoneRises pass.old pass.new }
     {
-        if !self.claim(rt, pass, &mut ticket)? {
-            return Ok(Worked::Ended);
+        match self.claim(rt, pass, ticket)? {
+            None => Ok(Worked::Ended),
+            Some(ticket) => {
+                let ticket = self.publish(rt, pass, ticket.evaluate())?;
+                Ok(Worked::Turn { ticket })
+            }
         }
-        let ticket = self.publish(rt, pass, evaluate(ticket))?;
-        Ok(Worked::Turn { ticket })
     }
 
     // Waits until there is a cell to claim, or none for good.
-    fn claim<R: Wait>(&self, rt: &R, pass: &mut Pass, ticket: &mut Ticket) -> Result<bool, Memory>
+    fn claim<R: Wait>(
+        &self,
+        rt: &R,
+        pass: &mut Pass,
+        mut ticket: KnownTicket<J>,
+    ) -> Result<Option<KnownTicket<J>>, Memory>
         requires pass { pass.old.board ≡ self.now }
-        requires ticket { ticket.old.frame ≡ J.frame }
-        ensures ended { IfOk result (λ claimed. claimed ≡ false → AtMostEach J.frame [] pass.new) }
-        ensures ticket { ticket.new.frame ≡ J.frame }
+        ensures ended { IfOk result (λ claimed. IfNone claimed (AtMostEach J.frame [] pass.new)) }
         ensures falls { NoneRises pass.old pass.new }
     {
         for _ in rt.forever() {
             let mut state = self.state.lock(rt);
-            match state.work(&self.board, pass, ticket) {
+            let (work, back) = state.work(&self.board, pass, ticket);
+            ticket = back;
+            match work {
                 Work::Found {
                     next: Next::Claimed,
-                } => return Ok(true),
-                Work::Found { next: Next::Ended } => return Ok(false),
+                } => return Ok(Some(ticket)),
+                Work::Found { next: Next::Ended } => return Ok(None),
                 Work::Found { next: Next::Waits } => drop(self.changed.wait(rt, state)),
                 Work::NeedsRoom { rows } => {
                     drop(state);
@@ -214,18 +238,21 @@ impl<J: Setting> Shared<J> {
     }
 
     // Publishes what was found, wakes the waiters where cells were opened, and gives the ticket back.
-    fn publish<R: Wait>(&self, rt: &R, pass: &mut Pass, p: Proposal) -> Result<Ticket, Memory>
+    fn publish<R: Wait>(
+        &self,
+        rt: &R,
+        pass: &mut Pass,
+        p: KnownProposal<J>,
+    ) -> Result<KnownTicket<J>, Memory>
         requires pass { pass.old.board ≡ self.now }
-        requires ticket { p.ticket.frame ≡ J.frame }
-        ensures ticket { IfOk result (λ ticket. ticket.frame ≡ J.frame) }
         ensures falls { NoneRises pass.old pass.new }
     {
-        let outcome = self.state.lock(rt).put(&self.board, pass, &p)?;
+        let (outcome, ticket) = self.state.lock(rt).put(&self.board, pass, p)?;
         match outcome {
             Some(Outcome { lowered: true, .. }) => self.changed.notify_all(),
             _ => {}
         }
-        Ok(p.into_ticket())
+        Ok(ticket)
     }
 
     /// One client less runs, where one does, and waiters are woken.

@@ -3,8 +3,9 @@ ghost use Rattle.std.specs.Prelude.{OnErr, OnOk, Some, length, slice_get};
 ghost use Rattle.std.specs.List.{Contains};
 ghost use Rattle.lj_relax.specs.Tickets.{TicketLists};
 ghost use Rattle.lj_table.specs.Starting.{IsFresh};
-ghost use Rattle.lj_table.specs.Tables.{Fits, IsAtRest};
-ghost use Rattle.lj_shared.specs.States.{AreAmong, IsFirstLacking, IsPut, IsUnfit, LacksBetween, TakesNext};
+ghost use Rattle.lj_table.specs.Tables.{Extends, Fits, IsAtRest, IsOfFirst};
+ghost use Rattle.lj_shared.specs.States.{AreAmong, IsFirstLacking, IsPut, IsPutKeeping, IsUnfit, LacksBetween};
+ghost use Rattle.lj_shared.specs.States.{TakesNext};
 
 use lj_base::{Frame, Memory};
 use lj_deriv::MAX_ARENA_UPLOADS;
@@ -73,8 +74,38 @@ impl State {
     {
         match self.table.claim(ticket) {
             Claimed::Cell { cell: _ } => Next::Claimed,
-            Claimed::NoneOpen if self.clients > 0 => Next::Waits,
-            Claimed::NoneOpen => Next::Ended,
+            Claimed::NoneOpen => self.idle(),
+        }
+    }
+
+    /// `next`, where the ticket has the table's lists already.
+    pub fn next_current(&mut self, ticket: &mut Ticket) -> Next
+        requires frame { ticket.old.frame ≡ self.old.table.arena.frame }
+        requires room { length self.old.table.arena.uploads ≤ ticket.old.room }
+        requires bounds { ticket.old.bounds ≡ self.old.table.bounds }
+        requires nodes { ticket.old.nodes ≡ self.old.table.nodes }
+        ensures next { TakesNext self.old ticket.old result self.new ticket.new }
+        ensures rest { result ≢ Next.Claimed → IsAtRest self.new.table }
+        ensures arena { self.new.table.arena ≡ self.old.table.arena }
+        ensures frame { ticket.new.frame ≡ ticket.old.frame }
+        ensures latest { IsOfFirst self.new.table.arena (length self.new.table.arena.rules) ticket.new }
+    {
+        match self.table.claim_current(ticket) {
+            Claimed::Cell { cell: _ } => Next::Claimed,
+            Claimed::NoneOpen => self.idle(),
+        }
+    }
+
+    // What there is while no cell is open.
+    fn idle(&self) -> Next
+        ensures waits { result ≡ Next.Waits → 0 < self.now.clients }
+        ensures ended { result ≡ Next.Ended → self.now.clients ≡ 0 }
+        ensures not_claimed { result ≢ Next.Claimed }
+    {
+        if self.clients > 0 {
+            Next::Waits
+        } else {
+            Next::Ended
         }
     }
 
@@ -95,6 +126,27 @@ impl State {
         };
         self.table.reserve()?;
         Ok(Some(self.table.publish_fitting(p, same)))
+    }
+
+    /// `put`, where the ticket's lists are those that the table had when it had made so many nodes; but of the cells
+    /// next to the published one, those that were closed may stay closed, where still nothing is cheaper there.
+    pub fn put_known(&mut self, p: &Proposal, known: u64) -> Result<Option<Outcome>, Memory>
+        requires known { IsOfFirst self.old.table.arena known p.now.ticket }
+        ensures fits { IfOk result (λ o. IsSome o ↔ Fits self.old.table.arena p.now.ticket) }
+        ensures put { IfOk result (λ o. IfSome o
+            (λ outcome. IsPutKeeping self.old.table p.now outcome self.new.table)) }
+        ensures none { IfOk result (λ o. IfNone o (self.new ≡ self.old)) }
+        ensures clients { self.new.clients ≡ self.old.clients }
+        ensures frame { self.new.table.arena.frame ≡ self.old.table.arena.frame }
+        ensures uploads { self.new.table.arena.uploads ≡ self.old.table.arena.uploads }
+        ensures err { OnErr result (self.new ≡ self.old) }
+        ensures extends { Extends self.old.table.arena self.new.table.arena }
+    {
+        if !self.table.fits_known(p.ticket()) {
+            return Ok(None);
+        }
+        self.table.reserve()?;
+        Ok(Some(self.table.publish_keeping(p, known)))
     }
 
     /// The first place in `own` whose upload the table does not have. Cost: where the table has them in the order of

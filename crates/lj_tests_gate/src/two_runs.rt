@@ -4,6 +4,7 @@ ghost use Rattle.std.specs.List.{Contains};
 use crate::scripts::{FRAME, SEVEN, script_of};
 use lj_board::Pass;
 use lj_gate::{Accepting, FreeGate, Ran, Serving, run};
+use lj_history::History;
 use lj_script::{Script, Section};
 use lj_session::{Session, SessionEnd};
 use lj_shared::Shared;
@@ -18,12 +19,15 @@ fn run_each<S: Serving + Send + Sync, R: Threads + Wait + Sync>(
     rt: &R,
     alloc: Global,
     script: Script,
+    history: History,
 ) -> Result<Vec<u8>, Fail>
     requires frame { S.frame ≡ script.frame }
     requires sections { S.sections ≡ script.clients }
+    requires named { history.history ≡ S.history }
+    requires new { history.changes ≡ [] }
 {
     let Script { frame, clients } = script;
-    let (shared, mut pass) = Shared::<Accepting<S>>::start(alloc, frame, 1)?;
+    let (shared, mut pass) = Shared::<Accepting<S>>::start(alloc, frame, 1, history)?;
     let mut replies = Vec::new(alloc);
     for section in clients.into_vec() {
         let ran = run_alone(rt, alloc, &shared, section, &mut pass)?;
@@ -82,7 +86,8 @@ fn a_client_reads_what_another_has_uploaded(rt: HostRuntime) -> Result<(), Fail>
     let alloc = rt.alloc();
     let bob = "client bob\nsettle\nbound 7 3 2\nplan 7 3 2\n";
     let script = script_of(alloc, &[FRAME, "client ann\n", SEVEN, bob])?;
-    let replies = run_each::<Brand, _>(&rt, alloc, script)?;
+    let history = History::start(alloc)?;
+    let replies = run_each::<Brand, _>(&rt, alloc, script, history)?;
     let want = "accepted 1 7\nsettled\nbound 7 3 2 7\nplan 7 3 2 7\n1 leaf 7 3 2 7 ann 1\nend\n";
     assert!(rt; replies.as_slice() == want.as_bytes());
     Ok(())

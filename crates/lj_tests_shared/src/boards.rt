@@ -3,17 +3,19 @@ ghost use Rattle.lj_base.specs.Frames.{InFrame};
 ghost use Rattle.lj_board.specs.Seen.{NoneRises};
 ghost use Rattle.lj_cover.specs.Rules.{triple};
 
-use crate::given::{EveryUpload, cell_of, five, four, seven};
+use crate::given::{EveryUpload, Named, cell_of, five, four, seven};
 use lj_base::{Cell, Memory};
 use lj_board::{Board, Pass};
+use lj_history::History;
 use lj_shared::Shared;
 use lj_table::Table;
 use std::alloc::Global;
+use std::marker::Brand;
 use std::test::Fail;
 use std::thread::{Threads, join};
 
 // Lowers the word of a cell to a table's bound there.
-fn lower(board: &Board<EveryUpload>, pass: &mut Pass, table: &Table, c: Cell)
+fn lower<N: Named>(board: &Board<EveryUpload<N>>, pass: &mut Pass, table: &Table, c: Cell)
     requires pass { pass.old.board ≡ board.now }
     requires frame { table.now.arena.frame ≡ record { top = triple 7 3 2 } }
     requires inside { InFrame (record { top = triple 7 3 2 }) c }
@@ -31,27 +33,42 @@ fn table(alloc: Global) -> Result<Table, Memory>
 
 #[test]
 fn passes_see_what_others_lower(rt: HostRuntime) -> Result<(), Fail> {
-    let alloc = rt.alloc();
-    let (shared, mut p): (Shared<EveryUpload>, Pass) = Shared::start(alloc, seven(), 0)?;
+    let history = History::start(rt.alloc())?;
+    let seen = look_and_lower::<Brand>(rt.alloc(), history)?;
+    assert_eq!(rt; seen, [10, 4, 5, 4, 4]);
+    Ok(())
+}
+
+// Two passes: what one sees of (5,3,2) before and after the other has lowered it, the greater bound that the first one
+// lowers it to then, and what the other and both joined see.
+fn look_and_lower<N: Named>(alloc: Global, history: History) -> Result<[u64; 5], Memory>
+    requires named { history.history ≡ N.history }
+    requires new { history.changes ≡ [] }
+{
+    let (shared, mut p): (Shared<EveryUpload<N>>, Pass) = Shared::start(
+        alloc,
+        seven(),
+        0,
+        history,
+    )?;
     let board = shared.board();
     let (mut low, mut high) = (table(alloc)?, table(alloc)?);
     low.accept(four(alloc)?)?;
     high.accept(five(alloc)?)?;
     let mut q = p.split(board);
-    assert_eq!(rt; p.peek(board, cell_of(5)), 10);
+    let before = p.peek(board, cell_of(5));
     lower(board, &mut q, &low, cell_of(5));
-    assert_eq!(rt; p.peek(board, cell_of(5)), 4);
-    assert_eq!(rt; high.bound(cell_of(5)), 5);
+    let after = p.peek(board, cell_of(5));
+    let greater = high.bound(cell_of(5));
     lower(board, &mut p, &high, cell_of(5));
-    assert_eq!(rt; q.peek(board, cell_of(5)), 4);
+    let other = q.peek(board, cell_of(5));
     p.join(board, q);
-    assert_eq!(rt; p.peek(board, cell_of(5)), 4);
-    Ok(())
+    Ok([before, after, greater, other, p.peek(board, cell_of(5))])
 }
 
 // Looks at cells and lowers them, by chance, and remembers what it saw; whether a number rose.
-fn has_risen(
-    board: &Board<EveryUpload>,
+fn has_risen<N: Named>(
+    board: &Board<EveryUpload<N>>,
     mut pass: Pass,
     low: &Table,
     high: &Table,
@@ -83,9 +100,9 @@ fn has_risen(
 }
 
 // Two threads.
-fn has_risen_in_two<R: Threads + Sync>(
+fn has_risen_in_two<N: Named + Send + Sync, R: Threads + Sync>(
     rt: &R,
-    board: &Board<EveryUpload>,
+    board: &Board<EveryUpload<N>>,
     passes: (Pass, Pass),
     low: &Table,
     high: &Table,
@@ -106,7 +123,7 @@ fn has_risen_in_two<R: Threads + Sync>(
 }
 
 // Whether the words have fallen to the bounds of a table at rest with the four triples.
-fn sees_least(board: &Board<EveryUpload>, pass: &mut Pass) -> bool
+fn sees_least<N: Named>(board: &Board<EveryUpload<N>>, pass: &mut Pass) -> bool
     requires { pass.old.board ≡ board.now }
 {
     let four = pass.peek(board, cell_of(4));
@@ -118,8 +135,28 @@ fn sees_least(board: &Board<EveryUpload>, pass: &mut Pass) -> bool
 
 #[test]
 fn four_threads_see_no_number_rise(rt: HostRuntime) -> Result<(), Fail> {
-    let alloc = rt.alloc();
-    let (shared, mut p): (Shared<EveryUpload>, Pass) = Shared::start(alloc, seven(), 0)?;
+    let history = History::start(rt.alloc())?;
+    let (risen, least) = look_in_four::<Brand, _>(&rt, rt.alloc(), history)?;
+    assert!(rt; !risen);
+    assert!(rt; least);
+    Ok(())
+}
+
+// Four threads; whether one of them saw a number rise, and whether the words have fallen to the least bounds.
+fn look_in_four<N: Named + Send + Sync, R: Threads + Sync>(
+    rt: &R,
+    alloc: Global,
+    history: History,
+) -> Result<(bool, bool), Memory>
+    requires named { history.history ≡ N.history }
+    requires new { history.changes ≡ [] }
+{
+    let (shared, mut p): (Shared<EveryUpload<N>>, Pass) = Shared::start(
+        alloc,
+        seven(),
+        0,
+        history,
+    )?;
     let board = shared.board();
     let (mut low, mut high) = (table(alloc)?, table(alloc)?);
     low.accept(four(alloc)?)?;
@@ -129,11 +166,19 @@ fn four_threads_see_no_number_rise(rt: HostRuntime) -> Result<(), Fail> {
     let mut last = p.split(board);
     let (low, high) = (&low, &high);
     let (a, b) = join(
-        &rt,
-        || has_risen_in_two(&rt, board, (p, q), low, high, 1),
-        || has_risen_in_two(&rt, board, (r, s), low, high, 2),
+        rt,
+        || -> bool
+            requires first { p.board ≡ board.now }
+            requires second { q.board ≡ board.now }
+            requires low { low.now.arena.frame ≡ record { top = triple 7 3 2 } }
+            requires high { high.now.arena.frame ≡ record { top = triple 7 3 2 } }
+        { has_risen_in_two(rt, board, (p, q), low, high, 1) },
+        || -> bool
+            requires first { r.board ≡ board.now }
+            requires second { s.board ≡ board.now }
+            requires low { low.now.arena.frame ≡ record { top = triple 7 3 2 } }
+            requires high { high.now.arena.frame ≡ record { top = triple 7 3 2 } }
+        { has_risen_in_two(rt, board, (r, s), low, high, 2) },
     );
-    assert!(rt; !a && !b);
-    assert!(rt; sees_least(board, &mut last));
-    Ok(())
+    Ok((a || b, sees_least(board, &mut last)))
 }

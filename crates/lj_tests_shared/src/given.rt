@@ -8,14 +8,41 @@ use lj_samples::{block, covering, four_triples, upload};
 use lj_table::Table;
 use lj_upload::Accepted;
 use std::alloc::Global;
+use std::marker::{Brand, PhantomData};
+
+/// Names the history of a run's table.
+pub trait Named {
+    ghost use Rattle.atomic_table.specs.Seated.{TableId};
+
+    ghost history: { TableId };
+}
+
+// A call at `Brand` chooses the history in its proof, whatever it is here.
+impl Named for Brand {
+    ghost use Rattle.std.specs.Prelude.{[]};
+
+    ghost history = { record {
+      words = 1;
+      slots = 0;
+      views_name = 0;
+      atom = 0;
+      block = 0;
+      offset = 0;
+      slot_names = [];
+    } };
+}
 
 /// Runs on the frame of (7,3,2), which allow every upload.
-pub struct EveryUpload;
+pub struct EveryUpload<N> {
+    named: PhantomData<N>,
+}
 
-impl Setting for EveryUpload {
+impl<N: Named> Setting for EveryUpload<N> {
     ghost frame = { record { top = record { v = 7; k = 3; t = 2 } } };
 
     ghost allowed = { λ upload. Unit {0} };
+
+    ghost history = { N.history };
 }
 
 /// The frame of (7,3,2).

@@ -5,4 +5,4 @@ use Rattle.lj_gate.proofs.workers.work.Given as goal
 abbrev pub invariant-loop : goal.invariant-loop
 invariant-loop g l =
     (goal.iterator-loop g).can_next l.iterator' × (goal.iterator-loop g).is_finite l.iterator'
-    × NoneRises l.fn.pass l.pass × (l.ticket.frame ≡ g.S.Serving.frame)
+    × NoneRises l.fn.pass l.pass
