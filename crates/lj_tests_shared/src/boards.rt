@@ -122,6 +122,27 @@ fn has_risen_in_two<N: Named + Send + Sync, R: Threads + Sync>(
     a || b
 }
 
+// Four threads, two at a time.
+fn has_risen_in_four<N: Named + Send + Sync, R: Threads + Sync>(
+    rt: &R,
+    board: &Board<EveryUpload<N>>,
+    passes: (Pass, Pass),
+    others: (Pass, Pass),
+    low: &Table,
+    high: &Table,
+) -> bool
+    requires first { passes.0.board ≡ board.now }
+    requires second { passes.1.board ≡ board.now }
+    requires third { others.0.board ≡ board.now }
+    requires fourth { others.1.board ≡ board.now }
+    requires low { low.now.arena.frame ≡ record { top = triple 7 3 2 } }
+    requires high { high.now.arena.frame ≡ record { top = triple 7 3 2 } }
+{
+    let a = has_risen_in_two(rt, board, passes, low, high, 1);
+    let b = has_risen_in_two(rt, board, others, low, high, 2);
+    a || b
+}
+
 // Whether the words have fallen to the bounds of a table at rest with the four triples.
 fn sees_least<N: Named>(board: &Board<EveryUpload<N>>, pass: &mut Pass) -> bool
     requires { pass.old.board ≡ board.now }
@@ -165,20 +186,6 @@ fn look_in_four<N: Named + Send + Sync, R: Threads + Sync>(
     let (q, r, s) = (p.split(board), p.split(board), p.split(board));
     let mut last = p.split(board);
     let (low, high) = (&low, &high);
-    let (a, b) = join(
-        rt,
-        || -> bool
-            requires first { p.board ≡ board.now }
-            requires second { q.board ≡ board.now }
-            requires low { low.now.arena.frame ≡ record { top = triple 7 3 2 } }
-            requires high { high.now.arena.frame ≡ record { top = triple 7 3 2 } }
-        { has_risen_in_two(rt, board, (p, q), low, high, 1) },
-        || -> bool
-            requires first { r.board ≡ board.now }
-            requires second { s.board ≡ board.now }
-            requires low { low.now.arena.frame ≡ record { top = triple 7 3 2 } }
-            requires high { high.now.arena.frame ≡ record { top = triple 7 3 2 } }
-        { has_risen_in_two(rt, board, (r, s), low, high, 2) },
-    );
-    Ok((a || b, sees_least(board, &mut last)))
+    let risen = has_risen_in_four(rt, board, (p, q), (r, s), low, high);
+    Ok((risen, sees_least(board, &mut last)))
 }
