@@ -17,6 +17,18 @@ pub record PassView : Type 0 where
   pub board : BoardView
   pub seen : List ℕ
 
+-- a name of a history, for where a caller chooses which one it is
+abbrev pub any_history : TableId
+any_history = record {
+  words = 1;
+  slots = 0;
+  views_name = 0;
+  atom = 0;
+  block = 0;
+  offset = 0;
+  slot_names = [];
+}
+
 -- the greatest number of 64 bits
 abbrev pub greatest : ℕ
 greatest = 2 ^ 64 - 1

@@ -16,19 +16,11 @@ pub trait Setting {
 
 // A call at `Brand` chooses the members in its proof, and so names any run, whatever they are here.
 impl Setting for Brand {
-    ghost use Rattle.std.specs.Prelude.{[]};
+    ghost use Rattle.lj_board.specs.Seen.{any_history};
 
     ghost frame = { record { top = record { v = 1; k = 1; t = 0 } } };
 
     ghost allowed = { λ upload. ⊥ };
 
-    ghost history = { record {
-      words = 1;
-      slots = 0;
-      views_name = 0;
-      atom = 0;
-      block = 0;
-      offset = 0;
-      slot_names = [];
-    } };
+    ghost history = { any_history };
 }

@@ -60,7 +60,7 @@ impl History {
     {
         let change = Change { cell, cost };
         let table = &self.table;
-        // The word is 0 and stays so: the step only tells the rule the change.
+        // The word is 0 and stays so: the step only announces the change.
         table
             .shared
             .compare_exchange_with::<Append>(&mut self.seat, 0, 0, 0, &change);

@@ -19,17 +19,9 @@ pub trait Named {
 
 // A call at `Brand` chooses the history in its proof, whatever it is here.
 impl Named for Brand {
-    ghost use Rattle.std.specs.Prelude.{[]};
+    ghost use Rattle.lj_board.specs.Seen.{any_history};
 
-    ghost history = { record {
-      words = 1;
-      slots = 0;
-      views_name = 0;
-      atom = 0;
-      block = 0;
-      offset = 0;
-      slot_names = [];
-    } };
+    ghost history = { any_history };
 }
 
 /// Runs on the frame of (7,3,2), which allow every upload.
