@@ -1,12 +1,12 @@
 #!/bin/sh
 # Measures how a table comes to rest: by `settle` on one thread, and by one, two and four workers over a shared table.
 # It takes ten runs of each, in turn, timed in the program, and prints the median number of turns, the best and the
-# median time in milliseconds, and how many turns a second that makes at best. Last come the times that a turn takes of
-# one worker without a lock, the median of ten runs, and which part of all are the two steps that are else taken under
-# the lock: the claim and the publication, which is mostly the opening of cells. There each ticket gets a copy of the
-# table's lists, in place of being brought up to date, whose time is counted for all alone. From these times `locked`
-# is estimated, the part of the time for which the lock is held, without bringing tickets up to date: the number of
-# turns times the time of the two steps, over the median time.
+# median time in milliseconds, and how many turns a second that makes at best. Last come the times that a turn takes
+# of one worker without a lock, the median of ten runs, and which part of all are the two steps that are else taken
+# under the lock: the claim and the publication. There each ticket gets a copy of the table's lists, in place of being
+# brought up to date, whose time is counted for all alone. From these times `locked` is estimated, the part of the
+# time for which the lock is held, without bringing tickets up to date: the number of turns times the time of the two
+# steps, over the median time.
 # usage: shared.sh LJ_BENCH_SHARED
 set -eu
 program=$1

@@ -7,6 +7,7 @@ use Rattle.atomic_table.specs.Seated.{TableId}
 use Rattle.lj_base.specs.Bounds.{at_cell}
 use Rattle.lj_base.specs.Cells.{Triple}
 use Rattle.lj_base.specs.Frames.{Top}
+use Rattle.lj_cover.specs.Derivations.{root_cell, tree_cost}
 use Rattle.lj_deriv.specs.Nodes.{Nodes}
 use Rattle.lj_history.specs.Past.{Past, StartsWith, change}
 use Rattle.lj_history.specs.declared.change.Change.{Change}
@@ -95,8 +96,8 @@ changes_stay a b n cs are grows few = record {
   each = λ node c at.
       let is : IsChangeOf a node c = are.each node c at in
       let low : node < length a.rules = omega (arith, slice_get_within cs node c at, are.count, few) in record {
-        cell = grows.cells node low ∙ is.cell;
-        cost = grows.costs node low ∙ is.cost;
+        cell = ap root_cell (grows.trees node low) ∙ is.cell;
+        cost = ap tree_cost (grows.trees node low) ∙ is.cost;
       };
 }
 
@@ -110,11 +111,11 @@ first_stays a b n q first grows = record {
         before = h.before;
         node = record {
           there = omega (arith, h.node.there, grows.more);
-          cell = grows.cells place h.node.there ∙ h.node.cell;
-          cost = grows.costs place h.node.there ∙ h.node.cost;
+          cell = ap root_cell (grows.trees place h.node.there) ∙ h.node.cell;
+          cost = ap tree_cost (grows.trees place h.node.there) ∙ h.node.cost;
         };
         last = λ j late low same.
-            h.last j late low (sym (grows.cells j (omega (arith, low, first.few))) ∙ same);
+            h.last j late low (sym (ap root_cell (grows.trees j (omega (arith, low, first.few)))) ∙ same);
       };
 }
 
@@ -122,15 +123,14 @@ pub extends_both : (a b c : Nodes) → Extends a b → Extends b c → Extends a
 extends_both a b c g h = record {
   frame = h.frame ∙ g.frame;
   more = omega (arith, g.more, h.more);
-  cells = λ j low. h.cells j (omega (arith, low, g.more)) ∙ g.cells j low;
-  costs = λ j low. h.costs j (omega (arith, low, g.more)) ∙ g.costs j low;
+  trees = λ j low. h.trees j (omega (arith, low, g.more)) ∙ g.trees j low;
 }
 
 -- room for more nodes changes nothing else
 pub extends_spare : (a b : Nodes) → b ≡ record a { spare = b.spare } → Extends a b
 extends_spare a b e =
     subst (Extends a) (sym e)
-    (record { frame = refl; more = omega arith; cells = λ j low. refl; costs = λ j low. refl })
+    (record { frame = refl; more = omega arith; trees = λ j low. refl })
 
 pub extends_room : (t r : Contents) → r ≡ record t { arena = record t.arena { spare = r.arena.spare } }
     → Extends t.arena r.arena

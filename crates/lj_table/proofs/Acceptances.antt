@@ -109,8 +109,7 @@ pub extends_pushed : (a a2 : Nodes) (u : Upload) → IsPushed a u a2 → Extends
 extends_pushed a a2 u p = record {
   frame = p.frame;
   more = omega (arith, ap length p.rules);
-  cells = λ j low. ap root_cell (p.trees j low);
-  costs = λ j low. ap tree_cost (p.trees j low);
+  trees = p.trees;
 }
 
 pub lists_pushed : (t : Contents) (a2 : Nodes) (u : Upload) → IsPushed t.arena u a2 → AreLists t

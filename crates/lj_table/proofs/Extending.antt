@@ -3,6 +3,7 @@ use Rattle.std.proofs.Common.{◌≡◌, ℕ, ◌≤◌, List, length, refl, sym
 use Rattle.lj_base.specs.Bounds.{at_cell}
 use Rattle.lj_base.specs.Cells.{Triple}
 use Rattle.lj_base.specs.Frames.{Top}
+use Rattle.lj_cover.specs.Derivations.{root_cell, tree_cost}
 use Rattle.lj_deriv.specs.Nodes.{Nodes}
 use Rattle.lj_relax.specs.Tickets.{TicketLists}
 use Rattle.lj_table.specs.Claiming.{IsClaimed}
@@ -11,20 +12,19 @@ use Rattle.lj_table.specs.declared.outcomes.Claimed.{Claimed}
 use Rattle.lj_table.specs.declared.outcomes.Claimed.TheVariants.{Cell, NoneOpen}
 
 pub extends_none : (a : Nodes) → Extends a a
-extends_none a = record { frame = refl; more = omega arith; cells = λ j low. refl; costs = λ j low. refl }
+extends_none a = record { frame = refl; more = omega arith; trees = λ j low. refl }
 
 pub extends_both : (a b c : Nodes) → Extends a b → Extends b c → Extends a c
 extends_both a b c g h = record {
   frame = h.frame ∙ g.frame;
   more = le_trans g.more h.more;
-  cells = λ j low. h.cells j (omega (arith, low, g.more)) ∙ g.cells j low;
-  costs = λ j low. h.costs j (omega (arith, low, g.more)) ∙ g.costs j low;
+  trees = λ j low. h.trees j (omega (arith, low, g.more)) ∙ g.trees j low;
 }
 
 -- room for more nodes changes nothing else
 pub extends_spare : (a a2 : Nodes) → a2 ≡ record a { spare = a2.spare } → Extends a a2
 extends_spare a a2 e = subst (Extends a) (sym e)
-    (record { frame = refl; more = omega arith; cells = λ j low. refl; costs = λ j low. refl })
+    (record { frame = refl; more = omega arith; trees = λ j low. refl })
 
 -- what holds of the first nodes still holds
 pub latest_kept : (a b : Nodes) (n : ℕ) (c : Triple) (i bound : ℕ) → Extends a b → n ≤ length a.rules
@@ -33,10 +33,10 @@ latest_kept a b n c i bound g few h = record {
   before = h.before;
   node = record {
     there = omega (arith, h.node.there, g.more);
-    cell = g.cells i h.node.there ∙ h.node.cell;
-    cost = g.costs i h.node.there ∙ h.node.cost;
+    cell = ap root_cell (g.trees i h.node.there) ∙ h.node.cell;
+    cost = ap tree_cost (g.trees i h.node.there) ∙ h.node.cost;
   };
-  last = λ j late low e. h.last j late low (sym (g.cells j (omega (arith, low, few))) ∙ e);
+  last = λ j late low e. h.last j late low (sym (ap root_cell (g.trees j (omega (arith, low, few)))) ∙ e);
 }
 
 -- where no node was added, the last nodes are the same

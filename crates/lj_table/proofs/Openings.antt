@@ -1,16 +1,19 @@
 -- Openings, one after another.
 use Rattle.std.proofs.Common.{◌≡◌, ◌≢◌, ◌↔◌, ◌⊎◌, ℕ, Bool, true, false, not, ◌&&◌, List, get_or, refl, sym, ap, ◌∙◌}
-use Rattle.std.proofs.Common.{[], ◌∷◌, ◌++◌, append_assoc, arith, subst, inl, inr, ⊎_elim}
+use Rattle.std.proofs.Common.{[], ◌∷◌, ◌++◌, append_assoc, arith, subst, inl, inr, ⊎_elim, ◌<◌, ◌≤◌, suc, zero}
+use Rattle.std.proofs.Common.{length, map}
 use Rattle.std.proofs.lemmas.Bool.{cases_eq, cases_Bool, true_from_ne_false}
-use Rattle.std.proofs.lemmas.List.{append-nil}
-use Rattle.std.proofs.lemmas.List.Elements.{Contains-append_left, Contains-append_right}
+use Rattle.std.proofs.lemmas.List.{append-nil, get_or-map, length-map, map-append}
+use Rattle.std.proofs.lemmas.List.Elements.{Contains-append_cases, Contains-append_left, Contains-append_right}
 use Rattle.std.proofs.lemmas.List.Elements.{Contains-get_or, Contains-push, Contains-push_cases}
 use Rattle.std.specs.List.{Contains}
 use Rattle.lj_base.specs.Cells.{Triple}
-use Rattle.lj_base.specs.Frames.{InFrame, Top, index_of}
+use Rattle.lj_base.specs.Blocks.{Ascends}
+use Rattle.lj_base.specs.Frames.{InFrame, Top, index_of, size_of}
+use Rattle.lj_base.proofs.Ascending.{Ascends-back, Ascends-get_or_from}
 use Rattle.lj_cover.specs.Instances.{Reads}
 use Rattle.lj_relax.specs.Readers.{AreReaders}
-use Rattle.lj_table.specs.Opening.{AreOpened, IsOpened, IsOpenedAt, IsReopened}
+use Rattle.lj_table.specs.Opening.{AreOpened, IsOpenAfter, IsOpened, IsOpenedAt, IsReopened}
 use Rattle.lj_table.specs.Tables.{IsIndexed}
 use Rattle.lj_table.proofs.ByCell.{apart, cell_cases, same_bool}
 
@@ -151,6 +154,21 @@ opened_one f ix d j closed busy closed2 busy2 inside at r = record {
           (λ q. absurd (apart (sym q.before ∙ sym (r.others i other) ∙ q.after))) w,
     )
 
+-- in a list whose numbers ascend none comes after a greater one
+in_order : (g : Triple → ℕ) (n : ℕ) (done left : List Triple) (d x : Triple)
+    → Ascends 0 n (map g (done ++ d ∷ left)) → Contains (d ∷ left) x → g d ≤ g x
+in_order g n done left d x h has =
+    from_first has.0 (Ascends-back 0 n (map g done) (map g (d ∷ left))
+    (subst (Ascends 0 n) (map-append g done (d ∷ left)) h)) has.1 has.2
+  where
+    from_first : (i : ℕ) → Ascends 0 n (map g (d ∷ left)) → i < length (d ∷ left) → get_or (d ∷ left) i x ≡ x
+        → g d ≤ g x
+    from_first zero a lt is = omega (arith, ap g is)
+    from_first (suc k) a lt is =
+        let low : k < length left = omega (arith, lt) in
+        let from = Ascends-get_or_from (suc (g d)) n (map g left) k a.2 (omega (arith, low, length-map left g)) in
+        omega (arith, from, get_or-map g left k x 0 low, ap g is)
+
 -- a walk through the cells that read a cell: of those that it has come to, the ones with P have been opened
 pub record IsWalk (f : Top) (c : Triple) (P : Triple → Type 0) (left : List Triple)
     (closed busy closed2 busy2 : List Bool)
@@ -210,6 +228,26 @@ walk_ends f c P left c1 b1 c2 b2 e w =
     subst (AreReaders f c) (ap (λ ds. w.done ++ ds) e ∙ append-nil w.done) w.readers in
     opened_as f (λ x. P x × Contains w.done x) (λ x. P x × Reads f x c) c1 b1 c2 b2
     (λ x i. (λ p. (p.0, ((all.members x).0 p.1).1), λ p. (p.0, (all.members x).1 (i, p.1)))) w.opened
+
+-- a walk may end at a cell after which no cell was closed
+pub walk_stops : (f : Top) (c d : Triple) (P : Triple → Type 0) (left before : List Triple) (last j : ℕ)
+    (c1 b1 c2 b2 : List Bool) → before ≡ d ∷ left → j ≡ index_of f d → last < j → IsOpenAfter last c1
+    → IsWalk f c P before c1 b1 c2 b2 → IsOpened f (λ d. P d × Reads f d c) c1 b1 c2 b2
+walk_stops f c d P left before last j c1 b1 c2 b2 e at above after w =
+    let all : AreReaders f c (w.done ++ d ∷ left) = subst (λ ds. AreReaders f c (w.done ++ ds)) e w.readers in
+    record {
+      marks = w.opened.marks;
+      opened = λ x i. (
+        λ q. ⊎_elim (λ was. inl was)
+            (λ p. inr (p.0, ((all.members x).0 (Contains-append_left w.done (d ∷ left) x p.1)).1))
+            ((w.opened.opened x i).0 q),
+        λ q. (w.opened.opened x i).1 (⊎_elim (λ was. inl was)
+            (λ p. ⊎_elim (λ has. inr (p.0, has))
+            (λ has. inl (after (index_of f x)
+            (omega (arith, above, at, in_order (index_of f) (size_of f) w.done left d x all.order has))))
+            (Contains-append_cases w.done (d ∷ left) x ((all.members x).1 (i, p.1)))) q),
+      );
+    }
 
 -- the cell that a walk comes to is in the frame
 pub walk_inside : (f : Top) (c d : Triple) (P : Triple → Type 0) (left before : List Triple) (c1 b1 c2 b2 : List Bool)

@@ -69,8 +69,7 @@ module _ (a : Nodes) (r : Rule) (i : ℕ) (a2 : Nodes) (added : IsAdded a r i a2
   extended = record {
     frame = added.frame;
     more = omega (arith, one_more);
-    cells = λ j low. ap root_cell (added.trees j low);
-    costs = λ j low. ap tree_cost (added.trees j low);
+    trees = added.trees;
   }
 
   -- the new node is the last one of its cell

@@ -14,7 +14,7 @@ pub record StayClosed (s m n : State) : Type 0 where
   pub pending : (c : Triple) → InFrame m.frame c
       → (n.pending c ≡ m.pending c) ⊎ ((s.pending c ≡ false) × (n.pending c ≡ false))
 
--- from s to n by a publication; but cells that were closed, and at which still nothing is cheaper, may stay closed
+-- from s to n by a publication; but cells that were closed may stay closed: where n is good, nothing is cheaper there
 pub record PublishesKeeping (s : State) (a : Snapshot) (best : Option ℕ) (lowered agreed : Bool) (n : State)
     : Type 0 where
   pub published : State

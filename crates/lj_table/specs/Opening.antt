@@ -1,7 +1,11 @@
 -- Cells that are opened.
-use Rattle.std.specs.Prelude.{◌≡◌, ◌≢◌, ◌↔◌, ◌⊎◌, ℕ, Bool, true, false, List, length, slice_index_or}
+use Rattle.std.specs.Prelude.{◌≡◌, ◌≢◌, ◌↔◌, ◌⊎◌, ℕ, ◌<◌, Bool, true, false, List, length, slice_index_or}
 use Rattle.lj_base.specs.Cells.{Triple}
 use Rattle.lj_base.specs.Frames.{InFrame, Top, index_of}
+
+-- no place after this one is closed
+abbrev pub IsOpenAfter : ℕ → List Bool → Type 0
+IsOpenAfter last closed = (j : ℕ) → last < j → slice_index_or closed j false ≡ false
 
 -- the place was closed, and is not any more
 pub record IsOpenedAt (i : ℕ) (closed closed2 : List Bool) : Type 0 where

@@ -117,12 +117,11 @@ pub record HasGrown (a : Nodes) (bounds : List ℕ) (a2 : Nodes) (bounds2 : List
   pub more : length a.rules ≤ length a2.rules
   pub same : length a2.rules ≡ length a.rules → bounds2 ≡ bounds
 
--- nodes were only added: those that were there are of the same cells and cost the same
+-- nodes were only added: those that were there are the same derivations
 pub record Extends (a b : Nodes) : Type 0 where
   pub frame : b.frame ≡ a.frame
   pub more : length a.rules ≤ length b.rules
-  pub cells : (j : ℕ) → j < length a.rules → root_cell (node_tree b j) ≡ root_cell (node_tree a j)
-  pub costs : (j : ℕ) → j < length a.rules → tree_cost (node_tree b j) ≡ tree_cost (node_tree a j)
+  pub trees : (j : ℕ) → j < length a.rules → node_tree b j ≡ node_tree a j
 
 -- the ticket's lists are those that a table with this arena had when the arena had n nodes
 pub record IsOfFirst (a : Nodes) (n : ℕ) (q : TicketLists) : Type 0 where

@@ -24,10 +24,10 @@ impl Store {
         self.arena.frame().at_cell(&self.nodes, c)
     }
 
-    /// Brings a ticket's lists up to date: of each cell of a node that has come since they are told what it has now.
-    pub fn copy_since(&self, known: u64, ticket: &mut Ticket)
+    /// Brings a ticket's lists up to date: for each node that has come since, what its cell has now is stored.
+    pub fn copy_since(&self, nodes: u64, ticket: &mut Ticket)
         requires table { IsTable (contents_of self.now) }
-        requires known { IsOfFirst self.now.arena known ticket.old }
+        requires known { IsOfFirst self.now.arena nodes ticket.old }
         ensures { ticket.new
             ≡ record ticket.old { bounds = self.now.bounds.items; nodes = self.now.nodes.items } }
     {
@@ -36,34 +36,34 @@ impl Store {
         self.arena.nodes_derive();
         let _ = ticket.bounds();
         let _ = ticket.nodes();
-        for node in known..self.arena.len() {
+        for node in nodes..self.arena.len() {
             let c = self.arena.cell(node);
             ticket.store(c, self.bound(c), self.node(c));
         }
     }
 
     /// `agrees`, by the rows and the nodes that have come since alone. Cost: a few steps for each of these.
-    pub fn agrees_since(&self, known: u64, ticket: &Ticket) -> bool
+    pub fn agrees_since(&self, nodes: u64, ticket: &Ticket) -> bool
         requires table { IsTable (contents_of self.now) }
-        requires known { IsOfFirst self.now.arena known ticket.now }
+        requires known { IsOfFirst self.now.arena nodes ticket.now }
         ensures { IsTrue result ↔ AgreesWith self.now.arena self.now.bounds.items ticket.now }
     {
         let (frame, c) = (ticket.frame(), ticket.cell());
         same_rows(self.arena.uploads(), frame, c, ticket.rows())
-            && self.reads_same_since(known, ticket)
+            && self.reads_same_since(nodes, ticket)
     }
 
     // Whether the ticket has the bounds of now at each cell that its cell reads.
-    fn reads_same_since(&self, known: u64, ticket: &Ticket) -> bool
+    fn reads_same_since(&self, nodes: u64, ticket: &Ticket) -> bool
         requires table { IsTable (contents_of self.now) }
-        requires known { IsOfFirst self.now.arena known ticket.now }
+        requires known { IsOfFirst self.now.arena nodes ticket.now }
         ensures { IsTrue result ↔ ((d : Triple) → InFrame self.now.arena.frame d
             → Reads self.now.arena.frame ticket.now.cell d
             → at_cell ticket.now.frame ticket.now.bounds d
             ≡ at_cell self.now.arena.frame self.now.bounds.items d) }
     {
         self.arena.nodes_derive();
-        for node in known..self.arena.len() {
+        for node in nodes..self.arena.len() {
             if self.reads_other(self.arena.cell(node), ticket) {
                 return false;
             }

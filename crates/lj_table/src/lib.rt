@@ -3,6 +3,7 @@
 #![tactic(auto)]
 
 mod agreement;
+mod closed;
 mod differences;
 mod fitting;
 mod known;

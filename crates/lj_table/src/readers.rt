@@ -4,45 +4,56 @@ ghost use Rattle.lj_base.specs.Frames.{InFrame, size_of};
 ghost use Rattle.lj_cover.specs.Instances.{Reads};
 ghost use Rattle.lj_table.specs.Opening.{IsOpened, IsReopened};
 
+use crate::closed::ClosedMap;
 use crate::places::Places;
 use lj_base::{Cell, Frame, index_law};
 use lj_bitmap::RankMap;
 use lj_relax::Dependents;
 
-/// Opens each other cell that reads the cell. Cost: a few steps for each.
-pub fn open_readers(frame: Frame, c: Cell, closed: &mut RankMap, busy: &mut RankMap)
+/// Opens each other cell that reads the cell. Cost: a few steps for each that comes before the last closed one.
+pub fn open_readers(frame: Frame, c: Cell, closed: &mut ClosedMap, busy: &mut RankMap)
     requires inside { InFrame frame c }
     requires closed { length closed.old ≡ size_of frame }
     requires busy { length busy.old ≡ size_of frame }
     ensures { IsOpened frame (λ d. (d ≢ c) × Reads frame d c) closed.old busy.old closed.new busy.new }
 {
     index_law();
+    let last = closed.last();
     let mut readers = Dependents::of(frame, c);
     let mut places = Places::of(frame, c);
     while let Some(d) = readers.next() {
+        let place = places.place(d);
+        if place > last {
+            return;
+        }
         if is_other(d, c) {
-            reopen(closed, busy, places.place(d));
+            reopen(closed, busy, place);
         }
     }
 }
 
-/// Opens each cell that reads the cell, itself too where it does. Cost: a few steps for each.
-pub fn open_all_readers(frame: Frame, c: Cell, closed: &mut RankMap, busy: &mut RankMap)
+/// Opens each cell that reads the cell, itself too where it does. Cost: that of `open_readers`.
+pub fn open_all_readers(frame: Frame, c: Cell, closed: &mut ClosedMap, busy: &mut RankMap)
     requires inside { InFrame frame c }
     requires closed { length closed.old ≡ size_of frame }
     requires busy { length busy.old ≡ size_of frame }
     ensures { IsOpened frame (λ d. Reads frame d c) closed.old busy.old closed.new busy.new }
 {
     index_law();
+    let last = closed.last();
     let mut readers = Dependents::of(frame, c);
     let mut places = Places::of(frame, c);
     while let Some(d) = readers.next() {
-        reopen(closed, busy, places.place(d));
+        let place = places.place(d);
+        if place > last {
+            return;
+        }
+        reopen(closed, busy, place);
     }
 }
 
 /// Opens each cell of the same `t` that has at most as many points. Cost: a step for each.
-pub fn open_served(frame: Frame, c: Cell, closed: &mut RankMap, busy: &mut RankMap)
+pub fn open_served(frame: Frame, c: Cell, closed: &mut ClosedMap, busy: &mut RankMap)
     requires inside { InFrame frame c }
     requires closed { length closed.old ≡ size_of frame }
     requires busy { length busy.old ≡ size_of frame }
@@ -54,7 +65,7 @@ pub fn open_served(frame: Frame, c: Cell, closed: &mut RankMap, busy: &mut RankM
 }
 
 // Opens each cell of this v and this t.
-fn open_row(frame: Frame, v: u8, t: u8, closed: &mut RankMap, busy: &mut RankMap)
+fn open_row(frame: Frame, v: u8, t: u8, closed: &mut ClosedMap, busy: &mut RankMap)
     requires some { 1 ≤ v }
     requires inside { v ≤ frame.top.v }
     requires within { t ≤ frame.top.t }
@@ -85,7 +96,7 @@ fn is_other(d: Cell, c: Cell) -> bool
 }
 
 // Opens the cell at a place: where it was closed it is not taken then.
-fn reopen(closed: &mut RankMap, busy: &mut RankMap, j: u64)
+fn reopen(closed: &mut ClosedMap, busy: &mut RankMap, j: u64)
     requires closed { j < length closed.old }
     requires busy { j < length busy.old }
     ensures { IsReopened j closed.old busy.old closed.new busy.new }

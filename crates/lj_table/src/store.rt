@@ -1,3 +1,4 @@
+use crate::closed::ClosedMap;
 use lj_bitmap::RankMap;
 use lj_deriv::Arena;
 
@@ -8,7 +9,7 @@ pub struct Store {
     pub bounds: Vec<u64>,
     pub nodes: Vec<u64>,
     /// The cell is not open.
-    pub closed: RankMap,
+    pub closed: ClosedMap,
     /// The cell is not open, or it is taken.
     pub busy: RankMap,
 }

@@ -25,8 +25,9 @@ ghost use Rattle.lj_table.specs.Tables.{AreLeast, Extends, Fits, IsAtRest, IsNod
 ghost use Rattle.lj_table.specs.Tables.{is_taken, state_of};
 
 use crate::agreement::agrees;
+use crate::closed::ClosedMap;
 use crate::fitting::{are_nodes, are_rows};
-use crate::marks::{first_unmarked, give_back, next_cell};
+use crate::marks::{first_open_cell, give_back, next_cell};
 use crate::outcomes::{Claimed, Outcome};
 use crate::places::top_law;
 use crate::rests::Rest;
@@ -80,7 +81,7 @@ impl Table {
         arena.reserve(n)?;
         let mut bounds = vec![in alloc; 0; n as usize]?;
         let mut nodes = vec![in alloc; 0; n as usize]?;
-        let closed = RankMap::new(alloc, n)?;
+        let closed = ClosedMap::new(alloc, n)?;
         let busy = RankMap::new(alloc, n)?;
         begin(frame, &mut arena, &mut bounds, &mut nodes);
         arena.nodes_derive();
@@ -142,7 +143,7 @@ impl Table {
         ensures least { OnTrue result (AreLeast self.now) }
     {
         rest_is_least();
-        match first_unmarked(self.store.arena.frame(), &self.store.closed) {
+        match first_open_cell(self.store.arena.frame(), &self.store.closed) {
             Some(_) => false,
             None => true,
         }
@@ -415,7 +416,7 @@ impl Table {
         ensures none { result ≡ None → IsAtRest self.now }
         ensures some { IfSome result (IsFirst self.now.arena.frame self.now.closed) }
     {
-        first_unmarked(self.store.arena.frame(), &self.store.closed)
+        first_open_cell(self.store.arena.frame(), &self.store.closed)
     }
 
     // One publication at an open cell over the bounds and rows of now, with no ticket; where nothing is cheaper, the
@@ -575,14 +576,14 @@ impl Table {
 
     /// `copy_into`, where the ticket's lists are those that the table had when it had made so many nodes. Cost: a few
     /// steps for each node that has come since. It takes no memory.
-    pub fn catch_up(&self, ticket: &mut Ticket, known: u64)
-        requires known { IsOfFirst self.now.arena known ticket.old }
+    pub fn catch_up(&self, ticket: &mut Ticket, nodes: u64)
+        requires known { IsOfFirst self.now.arena nodes ticket.old }
         ensures lists { ticket.new
             ≡ record ticket.old { bounds = self.now.bounds; nodes = self.now.nodes; rows = [] } }
         ensures latest { IsOfFirst self.now.arena (length self.now.arena.rules) ticket.new }
     {
         ticket.turn_to(ticket.cell());
-        self.store.copy_since(known, ticket);
+        self.store.copy_since(nodes, ticket);
     }
 
     /// `fits`, where the ticket's lists are known to be those that the table had at some time. Cost: a few steps for
@@ -621,10 +622,10 @@ impl Table {
     /// `publish`, where the ticket's lists are those that the table had when it had made so many nodes; but of the
     /// cells next to the published one that read it, those that were closed stay closed, where it is known that still
     /// nothing is cheaper there. Cost: a few steps for each node that has come since, and for each cell that is opened.
-    pub fn publish_keeping(&mut self, p: &Proposal, known: u64) -> Outcome
+    pub fn publish_keeping(&mut self, p: &Proposal, nodes: u64) -> Outcome
         requires room { 1 ≤ self.old.arena.spare }
         requires fits { Fits self.old.arena p.now.ticket }
-        requires known { IsOfFirst self.old.arena known p.now.ticket }
+        requires known { IsOfFirst self.old.arena nodes p.now.ticket }
         ensures step { PublishesKeeping (state_of self.old) (snapshot_of p.now.ticket) (found_cost p.now.found)
             result.lowered result.agreed (state_of self.new) }
         ensures untaken { is_taken self.new p.now.ticket.cell ≡ false }
@@ -635,7 +636,7 @@ impl Table {
         ensures fits { (q : TicketLists) → Fits self.old.arena q → Fits self.new.arena q }
         ensures extends { Extends self.old.arena self.new.arena }
     {
-        let agreed = self.store.agrees_since(known, p.ticket());
+        let agreed = self.store.agrees_since(nodes, p.ticket());
         let (frame, c) = (p.ticket().frame(), p.ticket().cell());
         let fewer_points = self.if_closed(with_fewer_points(c));
         let smaller_sets = self.if_closed(with_smaller_sets(c));

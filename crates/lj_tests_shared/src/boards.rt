@@ -108,10 +108,9 @@ fn has_risen_in_two<N: Named + Send + Sync, R: Threads + Sync>(
     high: &Table,
     seed: u64,
 ) -> bool
-    requires first { passes.0.board ≡ board.now }
-    requires second { passes.1.board ≡ board.now }
-    requires low { low.now.arena.frame ≡ record { top = triple 7 3 2 } }
-    requires high { high.now.arena.frame ≡ record { top = triple 7 3 2 } }
+    requires passes { (passes.0.board ≡ board.now) × (passes.1.board ≡ board.now) }
+    requires tables { (low.now.arena.frame ≡ record { top = triple 7 3 2 })
+        × (high.now.arena.frame ≡ record { top = triple 7 3 2 }) }
 {
     let (p, q) = passes;
     let (a, b) = join(
@@ -122,7 +121,7 @@ fn has_risen_in_two<N: Named + Send + Sync, R: Threads + Sync>(
     a || b
 }
 
-// Four threads, two at a time.
+// Four threads at once.
 fn has_risen_in_four<N: Named + Send + Sync, R: Threads + Sync>(
     rt: &R,
     board: &Board<EveryUpload<N>>,
@@ -131,15 +130,24 @@ fn has_risen_in_four<N: Named + Send + Sync, R: Threads + Sync>(
     low: &Table,
     high: &Table,
 ) -> bool
-    requires first { passes.0.board ≡ board.now }
-    requires second { passes.1.board ≡ board.now }
-    requires third { others.0.board ≡ board.now }
-    requires fourth { others.1.board ≡ board.now }
-    requires low { low.now.arena.frame ≡ record { top = triple 7 3 2 } }
-    requires high { high.now.arena.frame ≡ record { top = triple 7 3 2 } }
+    requires passes { (passes.0.board ≡ board.now) × (passes.1.board ≡ board.now) }
+    requires others { (others.0.board ≡ board.now) × (others.1.board ≡ board.now) }
+    requires tables { (low.now.arena.frame ≡ record { top = triple 7 3 2 })
+        × (high.now.arena.frame ≡ record { top = triple 7 3 2 }) }
 {
-    let a = has_risen_in_two(rt, board, passes, low, high, 1);
-    let b = has_risen_in_two(rt, board, others, low, high, 2);
+    let (a, b) = join(
+        rt,
+        || -> bool
+            requires passes { (passes.0.board ≡ board.now) × (passes.1.board ≡ board.now) }
+            requires tables { (low.now.arena.frame ≡ record { top = triple 7 3 2 })
+                × (high.now.arena.frame ≡ record { top = triple 7 3 2 }) }
+        { has_risen_in_two(rt, board, passes, low, high, 1) },
+        || -> bool
+            requires others { (others.0.board ≡ board.now) × (others.1.board ≡ board.now) }
+            requires tables { (low.now.arena.frame ≡ record { top = triple 7 3 2 })
+                × (high.now.arena.frame ≡ record { top = triple 7 3 2 }) }
+        { has_risen_in_two(rt, board, others, low, high, 2) },
+    );
     a || b
 }
 

@@ -2,7 +2,7 @@ use Rattle.std.proofs.Common.{◌≢◌, ◌<◌, ap, arith, subst, sym, ◌∙�
 use Rattle.lj_base.specs.Frames.{InFrame, index_of, size_of}
 use Rattle.lj_table.specs.Tables.{IsIndexed}
 use Rattle.lj_table.proofs.ByCell.{apart}
-use Rattle.lj_table.proofs.Openings.{walk_begins, walk_ends, walk_inside, walk_opens, walk_skips}
+use Rattle.lj_table.proofs.Openings.{walk_begins, walk_ends, walk_inside, walk_opens, walk_skips, walk_stops}
 use Rattle.lj_table.proofs.readers.open_readers.Goals as goal
 
 pub loop-d-init : goal.loop-d-init
@@ -12,22 +12,23 @@ loop-d-init c = record {
   walk = walk_begins c.args.frame c.args.c (λ d. d ≢ c.args.c) c.of-readers.result c.args.closed.now c.args.busy.now
       c.of-readers.ensures;
   places = c.of-places.ensures;
+  last = c.last-last.ensures;
 }
 
-pub place-requires : goal.place-requires
-place-requires c =
+pub place-place-requires : goal.place-place-requires
+place-place-requires c =
     subst (λ f. InFrame f c.in-Some.d) (sym c.loop-d.invariant.places)
     (walk_inside c.args.frame c.args.c c.in-Some.d
     (λ d. d ≢ c.args.c) c.next.new.self c.loop-d.readers c.args.closed.now c.args.busy.now
     c.loop-d.closed c.loop-d.busy c.in-Some.ensures.steps c.loop-d.invariant.walk)
 
-below : (c : goal.After-place) → c.place.result < size_of c.args.frame
+below : (c : goal.After-reopen-arg-then-is_other-1) → c.place-place.result < size_of c.args.frame
 below c =
     let inside = walk_inside c.args.frame c.args.c c.in-Some.d (λ d. d ≢ c.args.c) c.next.new.self c.loop-d.readers
     c.args.closed.now c.args.busy.now c.loop-d.closed c.loop-d.busy c.in-Some.ensures.steps c.loop-d.invariant.walk in
     omega (
       arith,
-      c.place.ensures.place ∙ ap (λ f. index_of f c.in-Some.d) c.loop-d.invariant.places,
+      c.place-place.ensures.place ∙ ap (λ f. index_of f c.in-Some.d) c.loop-d.invariant.places,
       c.index_law.ensures.below c.args.frame c.in-Some.d inside,
     )
 
@@ -52,12 +53,14 @@ loop-d-preserved-then-is_other c =
     record {
       next = tt;
       finite = tt;
-      walk = walk_opens f ix c.args.c c.in-Some.d (λ d. d ≢ c.args.c) c.next.new.self c.loop-d.readers c.place.result
-          c.args.closed.now c.args.busy.now c.loop-d.closed c.loop-d.busy c.reopen.new.closed c.reopen.new.busy inside
-          (c.place.ensures.place ∙ ap (λ f. index_of f c.in-Some.d) c.loop-d.invariant.places)
+      walk = walk_opens f ix c.args.c c.in-Some.d (λ d. d ≢ c.args.c) c.next.new.self c.loop-d.readers
+          c.place-place.result c.args.closed.now c.args.busy.now c.loop-d.closed c.loop-d.busy c.reopen.new.closed
+          c.reopen.new.busy inside
+          (c.place-place.ensures.place ∙ ap (λ f. index_of f c.in-Some.d) c.loop-d.invariant.places)
           (c.is_other.ensures.0 c.if-is_other.true) c.in-Some.ensures.steps c.reopen.ensures
           c.loop-d.invariant.walk;
-      places = c.place.ensures.frame ∙ c.loop-d.invariant.places;
+      places = c.place-place.ensures.frame ∙ c.loop-d.invariant.places;
+      last = c.loop-d.invariant.last;
     }
 
 pub loop-d-preserved : goal.loop-d-preserved
@@ -68,8 +71,17 @@ loop-d-preserved c = record {
       c.args.closed.now c.args.busy.now c.loop-d.closed c.loop-d.busy
       (λ other. apart (sym (c.is_other.ensures.1 other) ∙ c.if-is_other.false)) c.in-Some.ensures.steps
       c.loop-d.invariant.walk;
-  places = c.loop-d.invariant.places;
+  places = c.place-place.ensures.frame ∙ c.loop-d.invariant.places;
+  last = c.loop-d.invariant.last;
 }
+
+pub returns-then-place-last : goal.returns-then-place-last
+returns-then-place-last c =
+    walk_stops c.args.frame c.args.c c.in-Some.d (λ d. d ≢ c.args.c) c.next.new.self c.loop-d.readers
+    c.last-last.result c.place-place.result c.args.closed.now c.args.busy.now c.loop-d.closed c.loop-d.busy
+    c.in-Some.ensures.steps
+    (c.place-place.ensures.place ∙ ap (λ f. index_of f c.in-Some.d) c.loop-d.invariant.places)
+    (omega (arith, c.if-place-last.true)) c.loop-d.invariant.last c.loop-d.invariant.walk
 
 pub returns : goal.returns
 returns c =

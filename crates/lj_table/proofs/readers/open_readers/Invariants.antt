@@ -1,4 +1,5 @@
 use Rattle.std.proofs.Common.{◌≡◌, ◌≢◌}
+use Rattle.lj_table.specs.Opening.{IsOpenAfter}
 use Rattle.lj_table.proofs.Openings.{IsWalk}
 use Rattle.lj_table.proofs.readers.open_readers.Given as goal
 
@@ -8,4 +9,5 @@ invariant-loop-d l = record {
   finite : (goal.iterator-loop-d).is_finite l.readers;
   walk : IsWalk l.fn.frame l.c (λ d. d ≢ l.c) l.readers l.initial.closed l.initial.busy l.closed l.busy;
   places : l.places.frame ≡ l.fn.frame;
+  last : IsOpenAfter l.last l.initial.closed;
 }

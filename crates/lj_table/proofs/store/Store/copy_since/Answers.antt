@@ -11,7 +11,7 @@ pub loop-node-init : goal.loop-node-init
 loop-node-init c =
     let size : size_of c.args.ticket.now.frame ≡ size_of c.args.self.now.arena.frame =
     ap size_of c.requires.known.frame in
-    updated_none c.args.self.now.arena.frame c.args.known c.args.self.now.bounds.items c.args.self.now.nodes.items
+    updated_none c.args.self.now.arena.frame c.args.nodes c.args.self.now.bounds.items c.args.self.now.nodes.items
     c.args.ticket.now (sym (ap length c.bounds.ensures.bounds) ∙ c.bounds.ensures.are_bounds.count ∙ size)
     (sym (ap length c.nodes.ensures.nodes) ∙ c.nodes.ensures.count ∙ size)
 
@@ -28,7 +28,7 @@ store-requires-clause-inside c =
 
 pub loop-node-preserved : goal.loop-node-preserved
 loop-node-preserved c =
-    updated_next c.args.self.now.arena c.args.known c.loop-node.node c.args.self.now.bounds.items
+    updated_next c.args.self.now.arena c.args.nodes c.loop-node.node c.args.self.now.bounds.items
     c.args.self.now.nodes.items c.args.ticket.now c.loop-node.ticket c.store.new.self c.cell-c.result c.bound.result
     c.node.result c.requires.table.lists.index c.requires.table.latest
     (ap (λ (q : TicketLists). q.frame) c.loop-node.invariant.ticket ∙ c.requires.known.frame)
@@ -39,11 +39,11 @@ loop-node-preserved c =
 pub returns : goal.returns
 returns c =
     let last : c.loop-node.node ≡ length c.args.self.now.arena.rules = omega arith in
-    updated_all c.args.self.now.arena c.args.known c.args.self.now.bounds.items c.args.self.now.nodes.items
+    updated_all c.args.self.now.arena c.args.nodes c.args.self.now.bounds.items c.args.self.now.nodes.items
     c.args.ticket.now c.loop-node.ticket c.requires.known.frame c.requires.known.few c.requires.known.latest
     c.requires.table.latest
     (subst (λ f. (j : ℕ) → j < size_of f → (d : Triple) × InFrame f d × (index_of f d ≡ j)) c.frame.ensures
     c.places_law.ensures)
     c.requires.table.lists.bounds c.requires.table.lists.nodes
-    (subst (λ j. IsUpdated c.args.self.now.arena.frame c.args.known j c.args.self.now.bounds.items
+    (subst (λ j. IsUpdated c.args.self.now.arena.frame c.args.nodes j c.args.self.now.bounds.items
     c.args.self.now.nodes.items c.args.ticket.now c.loop-node.ticket) last c.loop-node.invariant)

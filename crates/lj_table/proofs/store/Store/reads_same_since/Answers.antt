@@ -29,7 +29,7 @@ loop-node-preserved c i low high =
 
 pub returns : goal.returns
 returns c = (
-  λ _. same_reads c.args.self.now.arena c.args.known c.args.self.now.bounds.items c.args.self.now.nodes.items
+  λ _. same_reads c.args.self.now.arena c.args.nodes c.args.self.now.bounds.items c.args.self.now.nodes.items
       c.args.ticket.now c.requires.known.frame c.requires.known.few c.requires.known.latest c.requires.table.latest
       (λ i low high. c.loop-node.invariant i low (omega (
         arith,

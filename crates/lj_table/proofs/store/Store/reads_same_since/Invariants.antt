@@ -6,7 +6,7 @@ use Rattle.lj_deriv.specs.Nodes.{node_tree}
 use Rattle.lj_table.proofs.store.Store.reads_same_since.Given as goal
 
 abbrev pub invariant-loop-node : goal.invariant-loop-node
-invariant-loop-node l = (i : ℕ) → l.known ≤ i → i < l.node
+invariant-loop-node l = (i : ℕ) → l.nodes ≤ i → i < l.node
     → Reads l.self.arena.frame l.ticket.cell (root_cell (node_tree l.self.arena i))
     → at_cell l.ticket.frame l.ticket.bounds (root_cell (node_tree l.self.arena i))
     ≡ at_cell l.self.arena.frame l.self.bounds.items (root_cell (node_tree l.self.arena i))
