@@ -1,13 +1,15 @@
--- The least cost at a cell by the kinds of rules, and the first low cell of all by those of the workers.
-use Rattle.std.proofs.Common.{◌≡◌, ◌⊎◌, ℕ, zero, suc, ◌+◌, ◌*◌, ◌<◌, ◌≤◌, List, [], ◌∷◌, Option, None, Some, length}
+-- The least cost at a cell by the kinds of rules, and the first low cell of all by those of the pieces.
+use Rattle.std.proofs.Common.{◌≡◌, ◌⊎◌, ℕ, zero, suc, ◌+◌, ◌*◌, ◌<◌, ◌≤◌, Bool, true, false, List, [], ◌∷◌}
+use Rattle.std.proofs.Common.{Option, None, Some, ◌/◌, ◌%◌, length, min, replicate, set}
 use Rattle.std.proofs.Common.{◌++◌, get_or, take, arith, refl, sym, ap, ◌∙◌, subst, inl, inr, ⊎_elim}
-use Rattle.std.proofs.lemmas.Bool.{cases_lt, cases_order}
-use Rattle.std.proofs.lemmas.List.{take_more}
+use Rattle.std.proofs.lemmas.Bool.{cases_eq, cases_lt, false≢true, true≢false}
+use Rattle.std.proofs.lemmas.Grind.{div_ceil_times}
+use Rattle.std.proofs.lemmas.List.{get_or-set_other, take_more}
 use Rattle.std.proofs.lemmas.List.Elements.{All-contains, Contains-append_left, Contains-push, Contains-push_cases}
-use Rattle.std.proofs.lemmas.List.FromFn.{length-range_with_len}
-use Rattle.std.proofs.lemmas.Slice.Zip.{AllZip-long}
 use Rattle.std.proofs.lemmas.Option.{IfSome_then, get_or_from_slice_get, slice_get-get_or, slice_get_within}
-use Rattle.std.specs.List.{AllZip, Contains, range_with_len}
+use Rattle.std.specs.Int.{div_ceil}
+use Rattle.std.specs.List.{AllByRecursion, AllZip, Contains}
+use Rattle.std.specs.Option.{is_some}
 use Rattle.std.specs.Prelude.{IfSome, ◌↔◌}
 use Rattle.lj_base.specs.Blocks.{AreBlocks}
 use Rattle.lj_base.specs.Bounds.{at_cell}
@@ -21,8 +23,9 @@ use Rattle.lj_relax.specs.States.{IsBaseUse}
 use Rattle.lj_relax.specs.Steps.{IsAtMost, IsLeastPrice, IsOffer, IsPrice}
 use Rattle.lj_relax.specs.Tickets.{snapshot}
 use Rattle.lj_cert.specs.Good.{IsAtRest, IsBaseCost, IsInstancePrice, IsRuleCost}
-use Rattle.lj_cert.specs.Lowest.{AreOffered, IsEvery, IsLeastOf, IsLowCell, IsLowest, IsOfferCost, IsPlainCost}
-use Rattle.lj_cert.specs.Lowest.{IsShared}
+use Rattle.lj_cert.specs.Lowest.{AreMarkedAtRest, AreOffered, IsInPiece, IsLeastOf, IsLowCell, IsOfferCost}
+use Rattle.lj_cert.specs.Lowest.{IsLowest, IsPieceAtRest, IsPlainCost}
+use Rattle.lj_cert.specs.declared.lowest.TheConstants.{PIECE_CELLS}
 use Rattle.lj_cert.specs.declared.lowest.LowCell.{LowCell}
 
 -- ---- the least of numbers
@@ -341,121 +344,7 @@ pub least_of_price : (frame : Top) (us : List Upload) (bounds : List ℕ) (c : T
     → IsLeastOf (IsPrice frame (snapshot frame c bounds (rows_at us c))) best
 least_of_price frame us bounds c best h = record { one = h.is_price; least = h.least }
 
--- ---- the shares of the workers
-
-shares_cut : (workers n place : ℕ) → IsShared workers (n + 1) place → IsShared workers n place ⊎ IsEvery n workers place
-shares_cut workers n place (worker, less, (j, is)) = ⊎_elim
-    (λ low. inl (worker, low, (j, is)))
-    (λ high. let same : worker ≡ n = omega (arith, less, high) in
-    inr (j, subst (λ w. place ≡ w + j * workers) same is))
-    (cases_lt worker n)
-
-share_more : (workers n place : ℕ) → IsShared workers n place → IsShared workers (n + 1) place
-share_more workers n place (worker, less, every) = (worker, omega (arith, less), every)
-
-share_last : (workers n place : ℕ) → IsEvery n workers place → IsShared workers (n + 1) place
-share_last workers n place h = (n, omega arith, h)
-
--- with the share of one worker more, where neither has a low cell
-pub none_low : (frame : Top) (us : List Upload) (bounds : Triple → ℕ) (workers n : ℕ)
-    → IsLowest frame us bounds (IsShared workers n) None → IsLowest frame us bounds (IsEvery n workers) None
-    → IsLowest frame us bounds (IsShared workers (n + 1)) None
-none_low frame us bounds workers n h k =
-    λ c inside share. ⊎_elim (h c inside) (k c inside) (shares_cut workers n (index_of frame c) share)
-
--- where the first that is low is one of the shares before
-pub first_is_low : (frame : Top) (us : List Upload) (bounds : Triple → ℕ) (workers n : ℕ) (a : LowCell)
-    → IsLowCell frame us bounds (IsShared workers n) a
-    → ((c : Triple) → InFrame frame c → IsEvery n workers (index_of frame c) → index_of frame c < a.place
-    → IsAtRest frame us bounds c) → IsLowCell frame us bounds (IsShared workers (n + 1)) a
-first_is_low frame us bounds workers n a h k = record {
-  inside = h.inside;
-  place_is = h.place_is;
-  among = share_more workers n a.place h.among;
-  cost_is = h.cost_is;
-  lower = h.lower;
-  least = h.least;
-  earlier = λ c inside share less. ⊎_elim (λ old. h.earlier c inside old less) (λ new. k c inside new less)
-      (shares_cut workers n (index_of frame c) share);
-}
-
--- where it is in the new share
-pub second_is_low : (frame : Top) (us : List Upload) (bounds : Triple → ℕ) (workers n : ℕ) (b : LowCell)
-    → IsLowCell frame us bounds (IsEvery n workers) b
-    → ((c : Triple) → InFrame frame c → IsShared workers n (index_of frame c) → index_of frame c < b.place
-    → IsAtRest frame us bounds c) → IsLowCell frame us bounds (IsShared workers (n + 1)) b
-second_is_low frame us bounds workers n b h k = record {
-  inside = h.inside;
-  place_is = h.place_is;
-  among = share_last workers n b.place h.among;
-  cost_is = h.cost_is;
-  lower = h.lower;
-  least = h.least;
-  earlier = λ c inside share less. ⊎_elim (λ old. k c inside old less) (λ new. h.earlier c inside new less)
-      (shares_cut workers n (index_of frame c) share);
-}
-
--- where none of the shares before has one
-pub second_of_none : (frame : Top) (us : List Upload) (bounds : Triple → ℕ) (workers n : ℕ) (other : Option LowCell)
-    → IsLowest frame us bounds (IsShared workers n) None → IsLowest frame us bounds (IsEvery n workers) other
-    → IsLowest frame us bounds (IsShared workers (n + 1)) other
-second_of_none frame us bounds workers n None h k = none_low frame us bounds workers n h k
-second_of_none frame us bounds workers n (Some b) h k =
-    second_is_low frame us bounds workers n b k (λ c inside share less. h c inside share)
-
-every_share : (n place : ℕ) → 1 ≤ n → IsShared n n place
-every_share n zero some = let start : 0 ≡ 0 + 0 * n = omega arith in (0, some, (0, start))
-every_share n (suc place) some =
-    let before = every_share n place some in
-    let worker = before.0 in
-    let j = before.2.0 in
-    let at = before.2.1 in
-    ⊎_elim
-    (λ low. let is : suc place ≡ worker + 1 + j * n = omega (arith, at) in (worker + 1, low, (j, is)))
-    (λ high. let grown : (j + 1) * n ≡ j * n + n = omega arith in
-    let is : suc place ≡ 0 + (j + 1) * n = omega (arith, at, before.1, high, grown) in (0, some, (j + 1, is)))
-    (cases_lt (worker + 1) n)
-
--- what holds of each worker's number and of what it found, at one place
-worker_at : {X : Type 0} (R : ℕ → X → Type 0) (a n i : ℕ) (xs : List X) (d : X) → AllZip R (range_with_len a n) xs
-    → i < n → R (a + i) (get_or xs i d)
-worker_at R a zero i xs d all within = absurd (omega (arith, within))
-worker_at R a (suc n) i [] d all within = absurd all
-worker_at R a (suc n) zero (x ∷ xs) d all within =
-    let same : a ≡ a + 0 = omega arith in subst (λ k. R k x) same all.0
-worker_at R a (suc n) (suc i) (x ∷ xs) d all within =
-    let same : a + 1 + i ≡ a + suc i = omega arith in
-    subst (λ k. R k (get_or xs i d)) same (worker_at R (a + 1) n i xs d all.1 (omega (arith, within)))
-
-pub found_by : {X : Type 0} (R : ℕ → X → Type 0) (n i : ℕ) (xs : List X) (x : X) → AllZip R (range_with_len 0 n) xs
-    → i < length xs → x ≡ get_or xs i x → R i x
-found_by R n i xs x all within at =
-    let long = AllZip-long R (range_with_len 0 n) xs all in
-    let count = length-range_with_len 0 n in
-    let same : 0 + i ≡ i = omega arith in
-    subst (R i) (sym at)
-    (subst (λ k. R k (get_or xs i x)) same (worker_at R 0 n i xs x all (omega (arith, long, count, within))))
-
-pub as_many : {X : Type 0} (R : ℕ → X → Type 0) (n : ℕ) (xs : List X) → AllZip R (range_with_len 0 n) xs → length xs ≡ n
-as_many R n xs all = AllZip-long R (range_with_len 0 n) xs all ∙ length-range_with_len 0 n
-
--- the shares of all workers are all places
-pub all_shared : (frame : Top) (us : List Upload) (bounds : Triple → ℕ) (workers : ℕ) (found : Option LowCell)
-    → 1 ≤ workers → IsLowest frame us bounds (IsShared workers workers) found
-    → IsLowest frame us bounds (λ place. Unit {0}) found
-all_shared frame us bounds workers None some h =
-    λ c inside all. h c inside (every_share workers (index_of frame c) some)
-all_shared frame us bounds workers (Some low) some h = record {
-  inside = h.inside;
-  place_is = h.place_is;
-  among = tt;
-  cost_is = h.cost_is;
-  lower = h.lower;
-  least = h.least;
-  earlier = λ c inside all less. h.earlier c inside (every_share workers (index_of frame c) some) less;
-}
-
--- ---- one share
+-- ---- one cell
 
 -- what is known of a cell in a frame and from uploads, of the same frame and uploads
 pub least_at : (f frame : Top) (vs us : List Upload) (bounds : List ℕ) (c : Triple) (best : Option ℕ) → f ≡ frame
@@ -475,41 +364,95 @@ pub rest_of_none : (frame : Top) (us : List Upload) (bounds : Triple → ℕ) (c
     → IsLeastOf (IsRuleCost frame us bounds c) None → IsAtRest frame us bounds c
 rest_of_none frame us bounds c h = λ m p. absurd (h.least m p)
 
-times_more : (i j s : ℕ) → i < j → i * s + s ≤ j * s
-times_more i zero s h = absurd (omega arith)
-times_more i (suc j) s h =
-    let grown : suc j * s ≡ j * s + s = omega arith in
-    ⊎_elim
-    (λ low. let more = times_more i j s low in omega (arith, more, grown))
-    (λ high. let same : i ≡ j = omega (arith, h, high) in
-    let equal : i * s ≡ j * s = ap (λ n. n * s) same in omega (arith, equal, grown))
-    (cases_lt i j)
-
--- between one place of a share and the next is no other
-between : (first step i j p place : ℕ) → p ≡ first + i * step → place ≡ first + j * step → place ≤ p
-    → p < place + step → p ≡ place
-between first step i j p place at is high less = ⊎_elim
-    (λ same. at ∙ ap (λ n. first + n * step) same ∙ sym is)
-    (λ other. ⊎_elim
-    (λ low. let up = times_more i j step low in absurd (omega (arith, at, is, high, less, up)))
-    (λ more. let up = times_more j i step more in absurd (omega (arith, at, is, high, less, up))) other)
-    (cases_order i j)
+-- ---- one piece
 
 -- where the cell at the next place is at rest
-pub rest_more : (frame : Top) (us : List Upload) (bounds : Triple → ℕ) (first step place : ℕ)
-    → IsEvery first step place
-    → ((e : Triple) → InFrame frame e → IsEvery first step (index_of frame e) → index_of frame e < place
+pub rest_more : (frame : Top) (us : List Upload) (bounds : Triple → ℕ) (piece place : ℕ)
+    → ((e : Triple) → InFrame frame e → IsInPiece piece (index_of frame e) → index_of frame e < place
     → IsAtRest frame us bounds e)
     → ((e : Triple) → InFrame frame e → index_of frame e ≡ place → IsAtRest frame us bounds e)
-    → (e : Triple) → InFrame frame e → IsEvery first step (index_of frame e) → index_of frame e < place + step
+    → (e : Triple) → InFrame frame e → IsInPiece piece (index_of frame e) → index_of frame e < place + 1
     → IsAtRest frame us bounds e
-rest_more frame us bounds first step place h before here e inside k less = ⊎_elim
-    (λ low. before e inside k low)
-    (λ high. here e inside (between first step k.0 h.0 (index_of frame e) place k.1 h.1 high less))
+rest_more frame us bounds piece place before here e inside within less = ⊎_elim
+    (λ low. before e inside within low)
+    (λ high. here e inside (omega (arith, less, high)))
     (cases_lt (index_of frame e) place)
 
--- the next place
-pub next_place : (first step place : ℕ) → IsEvery first step place → IsEvery first step (place + step)
-next_place first step place h =
-    let grown : (h.0 + 1) * step ≡ h.0 * step + step = omega arith in
-    (h.0 + 1, omega (arith, h.1, grown))
+-- where the piece has no low cell
+pub piece_at_rest : (frame : Top) (us : List Upload) (bounds : Triple → ℕ) (piece : ℕ) (found : Option LowCell)
+    → is_some found ≡ false → IsLowest frame us bounds (IsInPiece piece) found → IsPieceAtRest frame us bounds piece
+piece_at_rest frame us bounds piece None none h = h
+piece_at_rest frame us bounds piece (Some low) none h = absurd (true≢false none)
+
+-- no piece is marked at first
+none_marked : (count n : ℕ) → get_or (replicate count false) n false ≡ true → ⊥
+none_marked zero n marked = false≢true marked
+none_marked (suc count) zero marked = false≢true marked
+none_marked (suc count) (suc n) marked = none_marked count n marked
+
+pub marks_none : (frame : Top) (us : List Upload) (bounds : Triple → ℕ) (marks : List Bool) (count : ℕ)
+    → marks ≡ replicate count false → AreMarkedAtRest frame us bounds marks
+marks_none frame us bounds marks count blank n marked =
+    absurd (none_marked count n (subst (λ ms. get_or ms n false ≡ true) blank marked))
+
+-- the mark of one piece more
+pub marks_more : (frame : Top) (us : List Upload) (bounds : Triple → ℕ) (marks : List Bool) (piece : ℕ)
+    → AreMarkedAtRest frame us bounds marks → IsPieceAtRest frame us bounds piece
+    → AreMarkedAtRest frame us bounds (set marks piece true)
+marks_more frame us bounds marks piece before here n marked = ⊎_elim
+    (λ same. subst (IsPieceAtRest frame us bounds) (sym same) here)
+    (λ other. before n (sym (get_or-set_other marks piece n true false other) ∙ marked))
+    (cases_eq n piece)
+
+-- ---- all pieces
+
+-- where no cell of the next piece is low
+pub piece_more : (frame : Top) (us : List Upload) (bounds : Triple → ℕ) (piece : ℕ)
+    → ((e : Triple) → InFrame frame e → index_of frame e < piece * PIECE_CELLS → IsAtRest frame us bounds e)
+    → IsPieceAtRest frame us bounds piece
+    → (e : Triple) → InFrame frame e → index_of frame e < (piece + 1) * PIECE_CELLS → IsAtRest frame us bounds e
+piece_more frame us bounds piece before here e inside less = ⊎_elim
+    (λ low. before e inside low)
+    (λ high. here e inside (high, omega (arith, less)))
+    (cases_lt (index_of frame e) (piece * PIECE_CELLS))
+
+-- where no cell before the piece is low, its first low cell is that of the frame
+pub low_of_frame : (frame : Top) (us : List Upload) (bounds : Triple → ℕ) (piece : ℕ) (low : LowCell)
+    → ((e : Triple) → InFrame frame e → index_of frame e < piece * PIECE_CELLS → IsAtRest frame us bounds e)
+    → IsLowCell frame us bounds (IsInPiece piece) low → IsLowCell frame us bounds (λ place. Unit {0}) low
+low_of_frame frame us bounds piece low before h = record {
+  inside = h.inside;
+  place_is = h.place_is;
+  among = tt;
+  cost_is = h.cost_is;
+  lower = h.lower;
+  least = h.least;
+  earlier = λ e inside all less. ⊎_elim
+      (λ first. before e inside first)
+      (λ high. h.earlier e inside (high, omega (arith, less, h.among.1)) less)
+      (cases_lt (index_of frame e) (piece * PIECE_CELLS));
+}
+
+pub found_in_frame : (frame : Top) (us : List Upload) (bounds : Triple → ℕ) (piece : ℕ) (found : Option LowCell)
+    → is_some found ≡ true
+    → ((e : Triple) → InFrame frame e → index_of frame e < piece * PIECE_CELLS → IsAtRest frame us bounds e)
+    → IsLowest frame us bounds (IsInPiece piece) found → IsLowest frame us bounds (λ place. Unit {0}) found
+found_in_frame frame us bounds piece None some before h = absurd (false≢true some)
+found_in_frame frame us bounds piece (Some low) some before h = low_of_frame frame us bounds piece low before h
+
+-- the pieces have all places
+pub all_in_pieces : (size count piece place : ℕ) → count ≡ div_ceil size PIECE_CELLS → count ≤ piece → place < size
+    → place < piece * PIECE_CELLS
+all_in_pieces size count piece place is all within =
+    let whole = (div_ceil_times size PIECE_CELLS (omega arith)).0 in
+    let same : (size / PIECE_CELLS + min 1 (size % PIECE_CELLS)) * PIECE_CELLS ≡ count * PIECE_CELLS =
+    ap (λ n. n * PIECE_CELLS) (sym is) in
+    omega (arith, whole, same, all, within)
+
+-- what holds of each right item that goes with some left item
+pub each_right : {X Y : Type 0} (R : X → Y → Type 0) (P : Y → Type 0) (xs : List X) (ys : List Y)
+    → ((x : X) (y : Y) → R x y → P y) → AllZip R xs ys → AllByRecursion P ys
+each_right R P [] [] step all = tt
+each_right R P [] (y ∷ ys) step all = absurd all
+each_right R P (x ∷ xs) [] step all = absurd all
+each_right R P (x ∷ xs) (y ∷ ys) step all = (step x y all.0, each_right R P xs ys step all.1)

@@ -1,5 +1,5 @@
 -- The least cost of a rule at a cell, and the first cell at which it is below the bound.
-use Rattle.std.specs.Prelude.{◌≡◌, ℕ, ◌+◌, ◌*◌, ◌<◌, ◌≤◌, List, Option, IfSome, []}
+use Rattle.std.specs.Prelude.{◌≡◌, ℕ, ◌+◌, ◌*◌, ◌<◌, ◌≤◌, Bool, true, false, List, Option, IfSome, [], slice_index_or}
 use Rattle.std.specs.List.{Contains}
 use Rattle.std.specs.Option.{MatchOption}
 use Rattle.lj_base.specs.Cells.{Triple}
@@ -8,6 +8,7 @@ use Rattle.lj_cover.specs.Rules.{Condition, Rule, Upload, One, Runs, All, rule_c
 use Rattle.lj_relax.specs.Steps.{IsAtMost, IsOffer}
 use Rattle.lj_cert.specs.Good.{IsAtRest, IsRuleCost}
 use Rattle.lj_cert.specs.declared.lowest.LowCell.{LowCell}
+use Rattle.lj_cert.specs.declared.lowest.TheConstants.{PIECE_CELLS}
 
 -- the least number of which P holds; there is none where P holds of no number
 pub record IsLeastOf (P : ℕ → Type 0) (best : Option ℕ) : Type 0 where
@@ -33,13 +34,9 @@ IsOfferCost u c n = (r : Rule) × IsOffer u c r × (rule_cost r [] ≡ n)
 abbrev pub AreOffered : List Upload → Triple → ℕ → Type 0
 AreOffered uploads c n = (u : Upload) × Contains uploads u × IsOfferCost u c n
 
--- the places from one on, every so many
-abbrev pub IsEvery : ℕ → ℕ → ℕ → Type 0
-IsEvery first step place = (j : ℕ) × (place ≡ first + j * step)
-
--- the places of the first n of so many workers
-abbrev pub IsShared : ℕ → ℕ → ℕ → Type 0
-IsShared workers n place = (worker : ℕ) × (worker < n) × IsEvery worker workers place
+-- the places of one piece of the frame
+abbrev pub IsInPiece : ℕ → ℕ → Type 0
+IsInPiece piece place = (piece * PIECE_CELLS ≤ place) × (place < piece * PIECE_CELLS + PIECE_CELLS)
 
 -- of the cells at these places, this is the first at which a rule costs less than the bound, and its least cost there
 pub record IsLowCell (frame : Top) (uploads : List Upload) (bounds : Triple → ℕ) (Place : ℕ → Type 0)
@@ -59,3 +56,13 @@ IsLowest frame uploads bounds Place found =
     MatchOption found
     ((c : Triple) → InFrame frame c → Place (index_of frame c) → IsAtRest frame uploads bounds c)
     (IsLowCell frame uploads bounds Place)
+
+-- no rule costs less at any cell of the piece
+abbrev pub IsPieceAtRest : Top → List Upload → (Triple → ℕ) → ℕ → Type 0
+IsPieceAtRest frame uploads bounds piece =
+    (c : Triple) → InFrame frame c → IsInPiece piece (index_of frame c) → IsAtRest frame uploads bounds c
+
+-- no rule costs less at any cell of a piece that is marked
+abbrev pub AreMarkedAtRest : Top → List Upload → (Triple → ℕ) → List Bool → Type 0
+AreMarkedAtRest frame uploads bounds marks =
+    (piece : ℕ) → slice_index_or marks piece false ≡ true → IsPieceAtRest frame uploads bounds piece

@@ -1,15 +1,17 @@
-ghost use Rattle.std.specs.Prelude.{◌≡◌, ◌⊎◌, ℕ, ◌+◌, ◌<◌, ◌≤◌, IfOk, List, length};
-ghost use Rattle.std.specs.List.{AllByRecursion, AllZip, range_with_len};
+ghost use Rattle.std.specs.Prelude.{◌≡◌, ◌⊎◌, ℕ, ◌≤◌, true, IfOk, List, length};
+ghost use Rattle.std.specs.List.{AllByRecursion};
 ghost use Rattle.lj_base.specs.Bounds.{AreBounds, at_cell};
 ghost use Rattle.lj_base.specs.Cells.{Triple};
 ghost use Rattle.lj_base.specs.Frames.{InFrame, Top};
+ghost use Rattle.lj_base.specs.declared.limits.TheConstants.{MAX_CELLS};
 ghost use Rattle.lj_cover.specs.Instances.{AreUploads};
 ghost use Rattle.lj_cover.specs.Rules.{Upload};
 ghost use Rattle.lj_deriv.specs.declared.limits.TheConstants.{MAX_ARENA_UPLOADS};
 ghost use Rattle.lj_relax.specs.Steps.{IsAtMost};
 ghost use Rattle.lj_verify.specs.declared.limits.TheConstants.{MAX_WORKERS};
 ghost use Rattle.lj_cert.specs.Good.{IsRuleCost};
-ghost use Rattle.lj_cert.specs.Lowest.{AreOffered, IsEvery, IsLeastOf, IsLowest, IsOfferCost, IsPlainCost, IsShared};
+ghost use Rattle.lj_cert.specs.Lowest.{AreMarkedAtRest, AreOffered, IsInPiece, IsLeastOf, IsLowest, IsOfferCost};
+ghost use Rattle.lj_cert.specs.Lowest.{IsPieceAtRest, IsPlainCost};
 
 use lj_base::{Cell, Frame, Memory, Row, binom, index_law};
 use lj_cover::laws::{
@@ -23,6 +25,7 @@ use lj_upload::Accepted;
 use lj_verify::MAX_WORKERS;
 use rayon::prelude::*;
 use std::alloc::Global;
+use std::sync::atomic::{AtomicU64, Ordering};
 use std::thread::Threads;
 
 // A cell at which a rule costs less than the bound, with its place and the least cost there.
@@ -33,8 +36,12 @@ pub(crate) struct LowCell {
     pub cost: u64,
 }
 
-/// The first cell of the frame at which a rule costs less than the bound. Each of the workers goes through every so
-/// many cells; the result does not depend on how many they are.
+/// How many cells, one after another, are dealt out at a time: few enough that no worker is left with much at the end,
+/// and enough that the counter costs nothing beside them.
+const PIECE_CELLS: u64 = 32;
+
+/// The first cell of the frame at which a rule costs less than the bound. The workers take pieces of the frame from a
+/// counter until the pieces end; the result depends neither on how many workers there are nor on which took what.
 pub(crate) fn first_low<R: Threads + Sync>(
     rt: &R,
     alloc: Global,
@@ -49,80 +56,117 @@ pub(crate) fn first_low<R: Threads + Sync>(
     ensures { IfOk result (IsLowest arena.now.frame arena.now.uploads (at_cell arena.now.frame bounds.now)
         (λ _. Unit {0})) }
 {
-    let found: Vec<Result<Option<LowCell>, Memory>> = (0..workers)
+    let next = AtomicU64::new(0);
+    let done: Vec<Result<Vec<bool>, Memory>> = (0..workers)
         .into_par_iter()
         .with_min_len(1)
         .map(
-            |worker: u64| -> Result<Option<LowCell>, Memory>
+            |_worker: u64| -> Result<Vec<bool>, Memory>
                 requires bounds { AreBounds arena.now.frame bounds.now }
                 requires uploads { AreUploads arena.now.frame arena.now.uploads }
-                requires few_workers { workers ≤ MAX_WORKERS }
-                requires worker { worker < workers }
-                ensures { IfOk result (IsLowest arena.entry.now.frame arena.entry.now.uploads
-                    (at_cell arena.entry.now.frame bounds.entry.now) (IsEvery worker workers)) }
-            { low_among(alloc, arena, bounds, worker, workers) },
+                ensures { IfOk result (λ marks. AreMarkedAtRest arena.entry.now.frame arena.entry.now.uploads
+                    (at_cell arena.entry.now.frame bounds.entry.now) marks.items) }
+            { work(alloc, arena, bounds, &next) },
         )
         .collect(rt, alloc)?;
-    first_of(&found)
+    low_after(alloc, arena, bounds, &done)
 }
 
-// The first of those that the workers found, each among its own cells.
-fn first_of(found: &[Result<Option<LowCell>, Memory>]) -> Result<Option<LowCell>, Memory>
-    ensures { (frame : Top) (uploads : List Upload) (bounds : Triple → ℕ) (workers : ℕ)
-        → AllZip (λ n low. IfOk low (IsLowest frame uploads bounds (IsEvery n workers)))
-        (range_with_len 0 workers) found.now
-        → IfOk result (IsLowest frame uploads bounds (IsShared workers workers)) }
+// Takes pieces from the counter until they end or one has a low cell, and marks those that have none. What the counter
+// holds is not relied on: each mark stands for what was done here.
+fn work(alloc: Global, arena: &Arena, bounds: &[u64], next: &AtomicU64) -> Result<Vec<bool>, Memory>
+    requires bounds { AreBounds arena.now.frame bounds.now }
+    requires uploads { AreUploads arena.now.frame arena.now.uploads }
+    ensures { IfOk result (λ marks. AreMarkedAtRest arena.now.frame arena.now.uploads
+        (at_cell arena.now.frame bounds.now) marks.items) }
 {
-    let mut first = None;
-    for low in found {
-        first = earlier(first, (*low)?);
+    let count = arena.frame().size().div_ceil(PIECE_CELLS);
+    let mut marks = vec![in alloc; false; count as usize]?;
+    let mut rows = Vec::new(alloc);
+    for _ in 0..count {
+        let piece = next.fetch_add(1, Ordering::SeqCst);
+        if piece >= count || low_in(arena, bounds, piece, &mut rows)?.is_some() {
+            break;
+        }
+        marks[piece as usize] = true;
     }
-    Ok(first)
+    Ok(marks)
 }
 
-// The one that stands before the other.
-fn earlier(one: Option<LowCell>, other: Option<LowCell>) -> Option<LowCell>
-    ensures { (frame : Top) (uploads : List Upload) (bounds : Triple → ℕ) (workers n : ℕ)
-        → IsLowest frame uploads bounds (IsShared workers n) one
-        → IsLowest frame uploads bounds (IsEvery n workers) other
-        → IsLowest frame uploads bounds (IsShared workers (n + 1)) result }
-{
-    match (one, other) {
-        (Some(a), Some(b)) => { if a.place < b.place { Some(a) } else { Some(b) } }
-        (Some(a), None) => Some(a),
-        (None, b) => b,
-    }
-}
-
-// The first such cell of those at a place and at every so many places after it.
-fn low_among(
+// The first low cell, after the workers. The pieces are gone through in order, and those that nobody has marked are
+// done here: the first that has a low cell, and any that the counter left out.
+fn low_after(
     alloc: Global,
     arena: &Arena,
     bounds: &[u64],
-    first: u64,
-    step: u64,
+    done: &[Result<Vec<bool>, Memory>],
 ) -> Result<Option<LowCell>, Memory>
     requires bounds { AreBounds arena.now.frame bounds.now }
     requires uploads { AreUploads arena.now.frame arena.now.uploads }
-    requires first { first < step }
-    requires step { step ≤ MAX_WORKERS }
+    requires done { AllByRecursion (λ marks. IfOk marks (λ m. AreMarkedAtRest arena.now.frame arena.now.uploads
+        (at_cell arena.now.frame bounds.now) m.items)) done.now }
     ensures { IfOk result (IsLowest arena.now.frame arena.now.uploads (at_cell arena.now.frame bounds.now)
-        (IsEvery first step)) }
+        (λ _. Unit {0})) }
+{
+    index_law();
+    let count = arena.frame().size().div_ceil(PIECE_CELLS);
+    let mut rows = Vec::new(alloc);
+    for piece in 0..count {
+        if !is_marked(done, piece)? {
+            let low = low_in(arena, bounds, piece, &mut rows)?;
+            if low.is_some() {
+                return Ok(low);
+            }
+        }
+    }
+    Ok(None)
+}
+
+// Whether one of the workers has marked the piece.
+fn is_marked(done: &[Result<Vec<bool>, Memory>], piece: u64) -> Result<bool, Memory>
+    ensures { (frame : Top) (uploads : List Upload) (bounds : Triple → ℕ)
+        → AllByRecursion (λ marks. IfOk marks (λ m. AreMarkedAtRest frame uploads bounds m.items)) done.now
+        → IfOk result (λ marked. marked ≡ true → IsPieceAtRest frame uploads bounds piece) }
+{
+    for marks in done {
+        match marks {
+            Ok(marks) => {
+                if let Some(true) = marks.get(piece as usize) {
+                    return Ok(true);
+                }
+            }
+            Err(memory) => return Err(*memory),
+        }
+    }
+    Ok(false)
+}
+
+// The first low cell of the piece.
+fn low_in(
+    arena: &Arena,
+    bounds: &[u64],
+    piece: u64,
+    rows: &mut Vec<Row>,
+) -> Result<Option<LowCell>, Memory>
+    requires bounds { AreBounds arena.now.frame bounds.now }
+    requires uploads { AreUploads arena.now.frame arena.now.uploads }
+    requires few { piece ≤ MAX_CELLS }
+    ensures { IfOk result (IsLowest arena.now.frame arena.now.uploads (at_cell arena.now.frame bounds.now)
+        (IsInPiece piece)) }
 {
     index_law();
     let frame = arena.frame();
-    let size = frame.size();
-    let mut rows = Vec::new(alloc);
-    let mut place = first;
-    while place < size {
+    let mut place = piece * PIECE_CELLS;
+    let end = frame.size().min(place + PIECE_CELLS);
+    while place < end {
         let cell = frame.cell(place);
-        let cost = least_cost(arena.uploads(), frame, bounds, cell, &mut rows)?;
+        let cost = least_cost(arena.uploads(), frame, bounds, cell, rows)?;
         if let Some(cost) = cost {
             if cost < bounds[place as usize] {
                 return Ok(Some(LowCell { place, cell, cost }));
             }
         }
-        place += step;
+        place += 1;
     }
     Ok(None)
 }

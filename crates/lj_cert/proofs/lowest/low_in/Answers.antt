@@ -3,9 +3,9 @@ use Rattle.lj_base.specs.Bounds.{at_cell}
 use Rattle.lj_base.specs.Frames.{InFrame, index_of}
 use Rattle.lj_cert.specs.Good.{IsAtRest, IsRuleCost}
 use Rattle.lj_cert.specs.Lowest.{IsLeastOf}
-use Rattle.lj_cert.proofs.LowCells.{least_at, next_place, rest_more, rest_of_none, rest_of_some}
-use Rattle.lj_cert.proofs.lowest.low_among.Goals as goal
-use Rattle.lj_cert.proofs.lowest.low_among.Goals.{in-Some+else-cost-bounds, in_default}
+use Rattle.lj_cert.proofs.LowCells.{least_at, rest_more, rest_of_none, rest_of_some}
+use Rattle.lj_cert.proofs.lowest.low_in.Goals as goal
+use Rattle.lj_cert.proofs.lowest.low_in.Goals.{in-Some+else-cost-bounds, in_default}
 
 pub returns-then-cost-bounds : goal.returns-then-cost-bounds
 returns-then-cost-bounds c =
@@ -22,7 +22,7 @@ returns-then-cost-bounds c =
     record {
       inside = subst (λ f. InFrame f cell) same c.cell-cell.ensures.within;
       place_is = place;
-      among = c.loop-place.invariant.every;
+      among = (c.loop-place.invariant.from, omega (arith, c.min-end.ensures));
       cost_is = least.one;
       lower = subst (λ i. c.in-Some.cost < slice_index bounds i) (sym place) c.if-cost-bounds.true;
       least = least.least;
@@ -51,9 +51,9 @@ loop-place-preserved c =
           (subst (IsLeastOf (IsRuleCost frame us (at_cell frame bounds) cell)) w.in_default.is least)
     ] in
     record {
-      every = next_place c.args.first c.args.step c.loop-place.place c.loop-place.invariant.every;
-      earlier = rest_more frame us (at_cell frame bounds) c.args.first c.args.step c.loop-place.place
-          c.loop-place.invariant.every c.loop-place.invariant.earlier
+      from = omega (arith, c.loop-place.invariant.from);
+      earlier = rest_more frame us (at_cell frame bounds) c.args.piece c.loop-place.place
+          c.loop-place.invariant.earlier
           (λ e within at. subst (IsAtRest frame us (at_cell frame bounds))
           (c.index_law.ensures.one_to_one frame cell e inside within (place ∙ sym at)) rest);
     }
