@@ -1,5 +1,5 @@
 -- How a table, its history, and a ticket that was filled from it belong together.
-use Rattle.std.specs.Prelude.{◌≡◌, ◌≢◌, ℕ, ◌<◌, List, length, slice_get, Some}
+use Rattle.std.specs.Prelude.{◌≡◌, ◌≢◌, ℕ, ◌<◌, List, [], length, slice_get, Some}
 use Rattle.atomic_table.specs.Seated.{TableId}
 use Rattle.lj_base.specs.Bounds.{at_cell}
 use Rattle.lj_base.specs.Cells.{Triple}
@@ -9,6 +9,7 @@ use Rattle.lj_deriv.specs.Nodes.{Nodes, node_tree}
 use Rattle.lj_history.specs.Past.{Past, change}
 use Rattle.lj_history.specs.declared.change.Change.{Change}
 use Rattle.lj_relax.specs.Tickets.{TicketLists}
+use Rattle.lj_table.specs.Tables.{Contents}
 
 -- the change says which cell the node is of, and what it costs
 pub record IsChangeOf (a : Nodes) (node : ℕ) (c : Change) : Type 0 where
@@ -36,3 +37,7 @@ pub record IsKnown (frame : Top) (history : TableId) (q : TicketLists) (nodes : 
   pub history_is : p.history ≡ history
   pub count : length p.changes ≡ nodes
   pub lists : IsAfter frame p.changes q
+
+-- the ticket with the table's lists, and no rows
+abbrev pub up_to_date : Contents → TicketLists → TicketLists
+up_to_date t q = record q { bounds = t.bounds; nodes = t.nodes; rows = [] }

@@ -11,6 +11,7 @@ use Rattle.lj_deriv.specs.Nodes.{Steps, plan_tree}
 use Rattle.lj_relax.specs.Steps.{Accepts}
 use Rattle.lj_relax.specs.Tickets.{TicketLists}
 use Rattle.lj_table.specs.Tables.{Contents, IsAtRest, state_of}
+use Rattle.lj_shared.specs.Changes.{up_to_date}
 use Rattle.lj_shared.specs.Passes.{AtMostEach}
 use Rattle.lj_shared.specs.States.{AreAmong, IsFirstLacking, TakesNext}
 use Rattle.lj_shared.specs.declared.held.Settling.{Settling}
@@ -69,6 +70,11 @@ Settles own s q (NeedsRoom rows) n r = HasNoRoom s q rows n r
 Settles own s q Claimed n r = TakesNext s q NextClaimed n r
 Settles own s q Accepted n r = IsBrought own s n × (r ≡ q)
 Settles own s q Settled n r = HasAll own s n × (r ≡ q)
+
+-- `Settles`, where the ticket is brought up to date first, and once more after an acceptance
+abbrev pub SettlesCurrent : List Upload → State → TicketLists → Settling → State → TicketLists → Type 0
+SettlesCurrent own s q Accepted n r = IsBrought own s n × (r ≡ up_to_date n.table q)
+SettlesCurrent own s q found n r = Settles own s (up_to_date s.table q) found n r
 
 -- where no cell is open and no client runs, the pass has seen at most what needs no upload
 abbrev pub IsFound : Top → PassView → Work → Type 0

@@ -1,15 +1,15 @@
 -- What the calls of a state do.
-use Rattle.std.specs.Prelude.{◌≡◌, ◌≢◌, ◌⊎◌, ℕ, ◌<◌, ◌≤◌, false, List, length, slice_get, Some, take}
+use Rattle.std.specs.Prelude.{◌≡◌, ◌≢◌, ◌⊎◌, ℕ, ◌<◌, ◌≤◌, Bool, false, List, length, Option, slice_get, Some, take}
 use Rattle.std.specs.List.{Contains}
 use Rattle.lj_base.specs.Cells.{Triple}
 use Rattle.lj_base.specs.Frames.{InFrame, Top}
 use Rattle.lj_cover.specs.Rules.{Upload}
 use Rattle.lj_deriv.specs.declared.limits.TheConstants.{MAX_ARENA_UPLOADS}
 use Rattle.lj_relax.specs.Found.{Evaluation, found_cost}
-use Rattle.lj_relax.specs.Steps.{Publishes}
+use Rattle.lj_relax.specs.States.{State as TableState}
+use Rattle.lj_relax.specs.Steps.{Snapshot}
 use Rattle.lj_relax.specs.Tickets.{TicketLists, snapshot_of}
 use Rattle.lj_table.specs.Claiming.{IsClaim, IsNoClaim}
-use Rattle.lj_table.specs.Keeping.{PublishesKeeping}
 use Rattle.lj_table.specs.Tables.{Contents, KeepsNodes, is_taken, state_of}
 use Rattle.lj_table.specs.declared.outcomes.Outcome.{Outcome}
 use Rattle.lj_shared.specs.declared.state.Next.{Next}
@@ -26,18 +26,10 @@ TakesNext s q Claimed n r = IsClaim s.table q r.cell n.table r × (n.clients ≡
 TakesNext s q Waits n r = IsNoClaim s.table q n.table r × (n ≡ s) × (0 < s.clients)
 TakesNext s q Ended n r = IsNoClaim s.table q n.table r × (n ≡ s) × (s.clients ≡ 0)
 
--- from a table to the table after what was found over a ticket has been published
-pub record IsPut (t : Contents) (e : Evaluation) (outcome : Outcome) (n : Contents) : Type 0 where
-  pub step : Publishes (state_of t) (snapshot_of e.ticket) (found_cost e.found) outcome.lowered outcome.agreed
-      (state_of n)
-  pub untaken : is_taken n e.ticket.cell ≡ false
-  pub taken : (c : Triple) → InFrame t.arena.frame c → c ≢ e.ticket.cell → is_taken n c ≡ is_taken t c
-  pub nodes : KeepsNodes t n
-
--- `IsPut`, but cells that were closed may stay closed
-pub record IsPutKeeping (t : Contents) (e : Evaluation) (outcome : Outcome) (n : Contents) : Type 0 where
-  pub step : PublishesKeeping (state_of t) (snapshot_of e.ticket) (found_cost e.found) outcome.lowered outcome.agreed
-      (state_of n)
+-- from a table to the table after what was found over a ticket has been published, by a step of the state
+pub record IsPut (Step : TableState → Snapshot → Option ℕ → Bool → Bool → TableState → Type 0) (t : Contents)
+    (e : Evaluation) (outcome : Outcome) (n : Contents) : Type 0 where
+  pub step : Step (state_of t) (snapshot_of e.ticket) (found_cost e.found) outcome.lowered outcome.agreed (state_of n)
   pub untaken : is_taken n e.ticket.cell ≡ false
   pub taken : (c : Triple) → InFrame t.arena.frame c → c ≢ e.ticket.cell → is_taken n c ≡ is_taken t c
   pub nodes : KeepsNodes t n

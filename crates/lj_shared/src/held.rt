@@ -5,11 +5,12 @@ ghost use Rattle.lj_base.specs.Frames.{InFrame};
 ghost use Rattle.lj_board.specs.Seen.{NoneRises, saw, seen_of};
 ghost use Rattle.lj_cover.specs.Uses.{DerivableBy};
 ghost use Rattle.lj_relax.specs.Steps.{Accepts};
+ghost use Rattle.lj_table.specs.Keeping.{PublishesKeeping};
 ghost use Rattle.lj_table.specs.Tables.{Extends, Fits, IsAtRest, IsOfFirst, state_of};
 ghost use Rattle.lj_shared.specs.Holding.{AreShown, HasMoreRoom, IsFound, IsSettled, IsShown, IsShownPlan};
 ghost use Rattle.lj_shared.specs.Holding.{Closes, Settles, Works, derived_cell};
 ghost use Rattle.lj_shared.specs.Passes.{AtMostEach, AtMostOffers};
-ghost use Rattle.lj_shared.specs.States.{AreAmong, IsPutKeeping};
+ghost use Rattle.lj_shared.specs.States.{AreAmong, IsPut};
 
 use crate::state::{Next, State};
 use lj_base::{Cell, Memory};
@@ -311,7 +312,7 @@ impl<J: Setting> Held<J> {
         requires known { IsOfFirst self.old.table.arena known p.now.ticket }
         ensures fits { IfOk result (λ o. IsSome o ↔ Fits self.old.table.arena p.now.ticket) }
         ensures put { IfOk result (λ o. IfSome o
-            (λ outcome. IsPutKeeping self.old.table p.now outcome self.new.table)) }
+            (λ outcome. IsPut PublishesKeeping self.old.table p.now outcome self.new.table)) }
         ensures none { IfOk result (λ o. IfNone o (self.new ≡ self.old)) }
         ensures extends { Extends self.old.table.arena self.new.table.arena }
         ensures clients { self.new.clients ≡ self.old.clients }

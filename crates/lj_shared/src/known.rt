@@ -1,4 +1,5 @@
 ghost use Rattle.std.specs.Prelude.{◌≡◌, max, OnErr, OnOk};
+ghost use Rattle.lj_relax.specs.Found.{IsEvaluation};
 
 use lj_base::Memory;
 use lj_board::Setting;
@@ -59,7 +60,8 @@ impl<J: Setting> KnownTicket<J> {
 
     /// Finds an instance of least price over the ticket. It takes no memory.
     pub fn evaluate(self) -> KnownProposal<J>
-        ensures { result.ticket ≡ self }
+        ensures ticket { result.ticket ≡ self }
+        ensures least { IsEvaluation result }
     {
         let KnownTicket {
             ticket,

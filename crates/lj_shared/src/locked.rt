@@ -1,11 +1,16 @@
-ghost use Rattle.std.specs.Prelude.{◌≡◌, ◌-◌, ◌<◌, ◌≤◌, [], true, IfNone, IfOk, IfSome, OnErr, OnOk, length};
+ghost use Rattle.std.specs.Prelude.{◌≡◌, ◌↔◌, ◌-◌, ◌<◌, ◌≤◌, [], true, IfNone, IfOk, IfSome, IsSome, OnErr, OnOk};
+ghost use Rattle.std.specs.Prelude.{length};
 ghost use Rattle.std.specs.List.{AllByRecursion};
 ghost use Rattle.lj_base.specs.Frames.{InFrame};
 ghost use Rattle.lj_board.specs.Seen.{NoneRises, seen_of};
-ghost use Rattle.lj_table.specs.Tables.{IsOfFirst, state_of};
-ghost use Rattle.lj_shared.specs.Changes.{AreChangesOf};
-ghost use Rattle.lj_shared.specs.Holding.{IsFound, IsSettled, IsShown, IsShownPlan};
+ghost use Rattle.lj_relax.specs.Steps.{Accepts};
+ghost use Rattle.lj_table.specs.Keeping.{PublishesKeeping};
+ghost use Rattle.lj_table.specs.Tables.{Fits, IsOfFirst, state_of};
+ghost use Rattle.lj_shared.specs.Changes.{AreChangesOf, up_to_date};
+ghost use Rattle.lj_shared.specs.Holding.{HasMoreRoom, IsFound, IsSettled, IsShown, IsShownPlan};
+ghost use Rattle.lj_shared.specs.Holding.{SettlesCurrent, Works};
 ghost use Rattle.lj_shared.specs.Passes.{AtMostOffers};
+ghost use Rattle.lj_shared.specs.States.{IsPut};
 
 use crate::held::{Held, Settling, Work};
 use crate::known::{KnownProposal, KnownTicket};
@@ -72,6 +77,9 @@ impl<J: Setting> Locked<J> {
         requires pass { pass.old.board ≡ board.now }
         requires inside { InFrame J.frame up.cell }
         requires allowed { J.allowed up }
+        ensures step { OnOk result (Accepts (state_of self.old.table) up (state_of self.new.table)) }
+        ensures clients { self.new.clients ≡ self.old.clients }
+        ensures err { OnErr result (HasMoreRoom self.old self.new) }
         ensures offers { OnOk result (AtMostOffers up pass.new) }
         ensures falls { NoneRises pass.old pass.new }
     {
@@ -105,7 +113,7 @@ impl<J: Setting> Locked<J> {
     /// Gives a ticket the table's lists.
     pub fn ticket(&mut self, mut ticket: Ticket) -> KnownTicket<J>
         requires { ticket.frame ≡ J.frame }
-        ensures room { result.room ≡ ticket.room }
+        ensures ticket { result ≡ up_to_date self.old.table ticket }
         ensures same { self.new ≡ self.old }
     {
         self.held.table().copy_into(&mut ticket);
@@ -121,6 +129,7 @@ impl<J: Setting> Locked<J> {
         known: KnownTicket<J>,
     ) -> (Work, KnownTicket<J>)
         requires pass { pass.old.board ≡ board.now }
+        ensures works { Works self.old (up_to_date self.old.table known) result.0 self.new result.1 }
         ensures found { IsFound J.frame pass.new result.0 }
         ensures falls { NoneRises pass.old pass.new }
     {
@@ -142,6 +151,8 @@ impl<J: Setting> Locked<J> {
         requires pass { pass.old.board ≡ board.now }
         requires inside { AllByRecursion (λ u. InFrame J.frame u.cell) own.now }
         requires allowed { AllByRecursion J.allowed own.now }
+        ensures settles { IfOk result (λ r. SettlesCurrent own.now self.old known r.0 self.new r.1) }
+        ensures err { OnErr result (HasMoreRoom self.old self.new) }
         ensures settled { IfOk result (λ r. IsSettled J.frame own.now pass.new r.0) }
         ensures falls { NoneRises pass.old pass.new }
     {
@@ -164,6 +175,13 @@ impl<J: Setting> Locked<J> {
         p: KnownProposal<J>,
     ) -> Result<(Option<Outcome>, KnownTicket<J>), Memory>
         requires pass { pass.old.board ≡ board.now }
+        ensures fits { IfOk result (λ r. IsSome r.0 ↔ Fits self.old.table.arena p.ticket) }
+        ensures put { IfOk result (λ r. IfSome r.0
+            (λ outcome. IsPut PublishesKeeping self.old.table p outcome self.new.table)) }
+        ensures none { IfOk result (λ r. IfNone r.0 (self.new ≡ self.old)) }
+        ensures ticket { IfOk result (λ r. r.1 ≡ up_to_date self.new.table p.ticket) }
+        ensures clients { self.new.clients ≡ self.old.clients }
+        ensures err { OnErr result (self.new ≡ self.old) }
         ensures shown { IfOk result (λ r. IfSome r.0 (λ outcome. outcome.lowered ≡ true
             → IsShown self.new.table pass.new p.ticket.cell)) }
         ensures falls { NoneRises pass.old pass.new }
@@ -199,11 +217,9 @@ impl<J: Setting> Locked<J> {
 
     // Brings a ticket up to date, whose changes are the first ones of the history.
     fn untie(&mut self, known: KnownTicket<J>) -> Ticket
+        ensures lists { result ≡ up_to_date self.old.table known }
         ensures latest { IsOfFirst self.new.table.arena (length self.new.table.arena.rules) result }
-        ensures bounds { result.bounds ≡ self.new.table.bounds }
-        ensures nodes { result.nodes ≡ self.new.table.nodes }
         ensures frame { result.frame ≡ J.frame }
-        ensures room { result.room ≡ known.room }
         ensures same { self.new ≡ self.old }
     {
         let KnownTicket {

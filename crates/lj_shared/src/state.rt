@@ -1,10 +1,12 @@
 ghost use Rattle.std.specs.Prelude.{◌≡◌, ◌≢◌, ◌↔◌, ◌-◌, ◌<◌, ◌≤◌, false, true, IfNone, IfOk, IfSome, IsSome, IsTrue};
 ghost use Rattle.std.specs.Prelude.{OnErr, OnOk, Some, length, slice_get};
 ghost use Rattle.std.specs.List.{Contains};
+ghost use Rattle.lj_relax.specs.Steps.{Publishes};
 ghost use Rattle.lj_relax.specs.Tickets.{TicketLists};
+ghost use Rattle.lj_table.specs.Keeping.{PublishesKeeping};
 ghost use Rattle.lj_table.specs.Starting.{IsFresh};
 ghost use Rattle.lj_table.specs.Tables.{Extends, Fits, IsAtRest, IsOfFirst};
-ghost use Rattle.lj_shared.specs.States.{AreAmong, IsFirstLacking, IsPut, IsPutKeeping, IsUnfit, LacksBetween};
+ghost use Rattle.lj_shared.specs.States.{AreAmong, IsFirstLacking, IsPut, IsUnfit, LacksBetween};
 ghost use Rattle.lj_shared.specs.States.{TakesNext};
 
 use lj_base::{Frame, Memory};
@@ -89,6 +91,7 @@ impl State {
         ensures arena { self.new.table.arena ≡ self.old.table.arena }
         ensures frame { ticket.new.frame ≡ ticket.old.frame }
         ensures latest { IsOfFirst self.new.table.arena (length self.new.table.arena.rules) ticket.new }
+        ensures fits { (q : TicketLists) → Fits self.old.table.arena q → Fits self.new.table.arena q }
     {
         match self.table.claim_current(ticket) {
             Claimed::Cell { cell: _ } => Next::Claimed,
@@ -113,7 +116,8 @@ impl State {
     /// outcome.
     pub fn put(&mut self, p: &Proposal) -> Result<Option<Outcome>, Memory>
         ensures fits { IfOk result (λ o. IsSome o ↔ Fits self.old.table.arena p.now.ticket) }
-        ensures put { IfOk result (λ o. IfSome o (λ outcome. IsPut self.old.table p.now outcome self.new.table)) }
+        ensures put { IfOk result (λ o. IfSome o
+            (λ outcome. IsPut Publishes self.old.table p.now outcome self.new.table)) }
         ensures none { IfOk result (λ o. IfNone o (self.new ≡ self.old)) }
         ensures clients { self.new.clients ≡ self.old.clients }
         ensures frame { self.new.table.arena.frame ≡ self.old.table.arena.frame }
@@ -134,12 +138,13 @@ impl State {
         requires known { IsOfFirst self.old.table.arena known p.now.ticket }
         ensures fits { IfOk result (λ o. IsSome o ↔ Fits self.old.table.arena p.now.ticket) }
         ensures put { IfOk result (λ o. IfSome o
-            (λ outcome. IsPutKeeping self.old.table p.now outcome self.new.table)) }
+            (λ outcome. IsPut PublishesKeeping self.old.table p.now outcome self.new.table)) }
         ensures none { IfOk result (λ o. IfNone o (self.new ≡ self.old)) }
         ensures clients { self.new.clients ≡ self.old.clients }
         ensures frame { self.new.table.arena.frame ≡ self.old.table.arena.frame }
         ensures uploads { self.new.table.arena.uploads ≡ self.old.table.arena.uploads }
         ensures err { OnErr result (self.new ≡ self.old) }
+        ensures stay { (q : TicketLists) → Fits self.old.table.arena q → Fits self.new.table.arena q }
         ensures extends { Extends self.old.table.arena self.new.table.arena }
     {
         if !self.table.fits_known(p.ticket()) {
