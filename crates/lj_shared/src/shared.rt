@@ -21,8 +21,16 @@ use lj_relax::Ticket;
 use lj_table::{Outcome, Table};
 use lj_upload::Accepted;
 use std::alloc::Global;
+use std::hint::spin_loop;
 use std::marker::Model;
-use std::sync::{Condvar, Mutex, Wait};
+use std::sync::{Condvar, Mutex, MutexGuard, Wait};
+
+// How often a thread looks whether the lock is free before it sleeps, and how many pauses it makes after the first look;
+// after each further look it makes twice as many. The lock is held for about a microsecond as a rule, where to sleep and
+// to be woken takes tens of them.
+const LOOKS: u64 = 7;
+
+const FIRST_PAUSES: u64 = 16;
 
 /// One table for many threads. Its bounds are improved under a lock; each cell has a word on the board beside it, which
 /// is read without the lock. The table is of the run's frame and has allowed uploads alone.
@@ -118,7 +126,7 @@ impl<J: Setting> Shared<J> {
         ensures offers { OnOk result (AtMostOffers up pass.new) }
         ensures falls { NoneRises pass.old pass.new }
     {
-        self.state.lock(rt).accept(&self.board, pass, up)?;
+        self.hold(rt).accept(&self.board, pass, up)?;
         self.changed.notify_all();
         Ok(())
     }
@@ -139,7 +147,7 @@ impl<J: Setting> Shared<J> {
     {
         for _ in rt.forever() {
             let seen = pass.peek(&self.board, c);
-            let state = self.state.lock(rt);
+            let state = self.hold(rt);
             if let Some(plan) = state.plan(alloc, &self.board, pass, c, seen)? {
                 return Ok(plan);
             }
@@ -165,7 +173,7 @@ impl<J: Setting> Shared<J> {
     {
         let mut ticket = self.ticket(rt, alloc)?;
         for _ in rt.forever() {
-            let mut state = self.state.lock(rt);
+            let mut state = self.hold(rt);
             let (found, back) = state.settle(alloc, &self.board, pass, ticket, own)?;
             drop(state);
             ticket = back;
@@ -182,7 +190,7 @@ impl<J: Setting> Shared<J> {
     /// A ticket with the table's lists.
     pub fn ticket<R: Wait>(&self, rt: &R, alloc: Global) -> Result<KnownTicket<J>, Memory> {
         let ticket = Ticket::new(alloc, self.frame)?;
-        Ok(self.state.lock(rt).ticket(ticket))
+        Ok(self.hold(rt).ticket(ticket))
     }
 
     /// One turn of a worker: it claims a cell under the lock, looks for a least price without it, and publishes under
@@ -207,6 +215,21 @@ impl<J: Setting> Shared<J> {
         }
     }
 
+    // Takes the lock; it sleeps only where the lock is not free for a while.
+    fn hold<R: Wait>(&self, rt: &R) -> MutexGuard<'_, Locked<J>> {
+        let mut pauses = FIRST_PAUSES;
+        for _ in 0..LOOKS {
+            if let Some(state) = self.state.try_lock() {
+                return state;
+            }
+            for _ in 0..pauses {
+                spin_loop();
+            }
+            pauses = pauses.saturating_mul(2);
+        }
+        self.state.lock(rt)
+    }
+
     // Waits until there is a cell to claim, or none for good.
     fn claim<R: Wait>(
         &self,
@@ -219,7 +242,7 @@ impl<J: Setting> Shared<J> {
         ensures falls { NoneRises pass.old pass.new }
     {
         for _ in rt.forever() {
-            let mut state = self.state.lock(rt);
+            let mut state = self.hold(rt);
             let (work, back) = state.work(&self.board, pass, ticket);
             ticket = back;
             match work {
@@ -247,7 +270,7 @@ impl<J: Setting> Shared<J> {
         requires pass { pass.old.board ≡ self.now }
         ensures falls { NoneRises pass.old pass.new }
     {
-        let (outcome, ticket) = self.state.lock(rt).put(&self.board, pass, p)?;
+        let (outcome, ticket) = self.hold(rt).put(&self.board, pass, p)?;
         match outcome {
             Some(Outcome { lowered: true, .. }) => self.changed.notify_all(),
             _ => {}
@@ -257,7 +280,7 @@ impl<J: Setting> Shared<J> {
 
     /// One client less runs, where one does, and waiters are woken.
     pub fn leave<R: Wait>(&self, rt: &R) {
-        self.state.lock(rt).leave();
+        self.hold(rt).leave();
         self.changed.notify_all();
     }
 
