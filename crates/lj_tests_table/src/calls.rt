@@ -1,5 +1,7 @@
 //! The table's calls at cells, uploads and tickets of any frame.
 
+ghost use Rattle.lj_table.specs.Tables.{Extends};
+
 use lj_base::{Cell, Frame, Memory};
 use lj_cover::Design;
 use lj_deriv::MAX_ARENA_UPLOADS;
@@ -23,7 +25,9 @@ pub fn start(alloc: Global, top: Cell) -> Result<Table, Memory> {
     Table::start(alloc, frame_of(top))
 }
 
-pub fn settle(alloc: Global, table: &mut Table) -> Result<(), Memory> {
+pub fn settle(alloc: Global, table: &mut Table) -> Result<(), Memory>
+    ensures { Extends table.old.arena table.new.arena }
+{
     table.settle(alloc)
 }
 
@@ -52,7 +56,9 @@ pub fn is_open(table: &Table, c: Cell) -> bool {
 }
 
 /// Accepts an upload of a design of few blocks, where the frame has its cell; whether it has accepted it.
-pub fn accept(alloc: Global, table: &mut Table, design: Design) -> Result<bool, Memory> {
+pub fn accept(alloc: Global, table: &mut Table, design: Design) -> Result<bool, Memory>
+    ensures { Extends table.old.arena table.new.arena }
+{
     if design.blocks().len() <= 100 {
         let up = upload(alloc, 1, design)?;
         accept_upload(table, up)
@@ -61,7 +67,9 @@ pub fn accept(alloc: Global, table: &mut Table, design: Design) -> Result<bool, 
     }
 }
 
-fn accept_upload(table: &mut Table, up: Accepted) -> Result<bool, Memory> {
+fn accept_upload(table: &mut Table, up: Accepted) -> Result<bool, Memory>
+    ensures { Extends table.old.arena table.new.arena }
+{
     let inside = table.frame().has(up.design().cell());
     if inside && (table.accepted().len() as u64) < MAX_ARENA_UPLOADS {
         table.accept(up)?;

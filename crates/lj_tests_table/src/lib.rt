@@ -6,6 +6,12 @@ mod calls;
 #[cfg(test)]
 mod forest_tests;
 #[cfg(test)]
+mod known_calls;
+#[cfg(test)]
+mod known_tests;
+#[cfg(test)]
+mod reopening_tests;
+#[cfg(test)]
 mod replay_tests;
 #[cfg(test)]
 mod runs;
