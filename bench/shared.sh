@@ -20,7 +20,7 @@ field() {
 
 line='%-10s %-9s %8s %9s %9s %9s %6s\n'
 printf "$line" frame workers turns 'best ms' 'median ms' 'turns/s' locked
-for frame in '64 8 4' '99 25 8'; do
+for frame in '64 8 4' '99 12 4' '99 25 8'; do
     rm -f "$work"/*
     for run in 1 2 3 4 5 6 7 8 9 10; do
         for workers in 0 1 2 4; do
