@@ -16,7 +16,7 @@ trap 'rm -rf "$work"' EXIT
 row() {
     echo "$1 $(summary build) $(summary one) $(summary two) $(summary four)" | awk '{
         printf "%-24s", $1
-        for (i = 2; i <= 11; i += 3) printf " %7.2f %7.2f", $i, $(i + 1)
+        for (i = 2; i <= 11; i += 3) printf " %7.3f %7.3f", $i, $(i + 1)
         for (i = 5; i <= 11; i += 3) printf " %6.2f", ($2 > 0 ? $i / $2 : 0)
         printf "\n"
     }'
